@@ -1,0 +1,4 @@
+pub mod FileBits
+pub mod Messages
+pub mod Laws
+pub mod FileExamples

@@ -1,0 +1,95 @@
+ghost use Rattle.std.specs.Prelude.{◌≡◌, ◌<◌, length, All, IfSome, IfOk};
+ghost use Rattle.kk_code.specs.Codeword.{IsMessage};
+ghost use Rattle.kk_code.specs.Ticket.{generations};
+
+use super::*;
+use kk_code::{Message, Ticket};
+use std::process::Abort;
+use std::test::*;
+
+/// The ticket of a file of one byte: three messages of one symbol of three bits.
+fn one_byte(rt: &impl Abort) -> Result<Ticket, Fail>
+    ensures { IfOk result (λ t. (t.length ≡ 1) × (generations t ≡ 3) × (t.code.k ≡ 1) × (t.code.field.degree ≡ 3)) }
+{
+    let ticket = Ticket::read("kk1:00000001:3:0000000000000003:3:1:1")?;
+    assert_eq!(rt; ticket.length(), 1);
+    assert_eq!(rt; ticket.generations(), 3);
+    assert_eq!(rt; ticket.code().k(), 1);
+    assert_eq!(rt; ticket.code().m(), 3);
+    Ok(ticket)
+}
+
+fn message(symbol: u64, ticket: &Ticket) -> Message
+    requires below { symbol < 8 }
+    requires one { ticket.now.code.k ≡ 1 }
+    requires bits { ticket.now.code.field.degree ≡ 3 }
+    ensures { IsMessage ticket.now.code result }
+{
+    Message::from_slice(&[symbol])
+}
+
+/// Joins the messages of these symbols, with the second one missing where it is `None`.
+fn join_symbols(
+    first: u64,
+    second: Option<u64>,
+    third: u64,
+    ticket: &Ticket,
+    file: &mut [u8],
+) -> bool
+    requires below { (first < 8) × IfSome second (λ symbol. symbol < 8) × (third < 8) }
+    requires one_byte { (length file.old ≡ 1) × (ticket.now.length ≡ 1) }
+    requires three { generations ticket.now ≡ 3 }
+    requires one { ticket.now.code.k ≡ 1 }
+    requires bits { ticket.now.code.field.degree ≡ 3 }
+{
+    let first = message(first, ticket);
+    let third = message(third, ticket);
+    let second = match second {
+        Some(symbol) => Some(message(symbol, ticket)),
+        None => None,
+    };
+    join(&[Some(first), second, Some(third)], ticket, file)
+}
+
+#[test]
+fn one_byte_in_three_messages(rt: HostRuntime) -> Result<(), Fail> {
+    let ticket = one_byte(&rt)?;
+    for (generation, symbol) in [(0, 5), (1, 0), (2, 0)] {
+        let message = cut(&[0xA0], &ticket, generation);
+        assert_eq!(rt;
+            message.symbols(),
+            [symbol].as_slice(),
+            "generation {generation}"
+        );
+    }
+    // The last of its nine bits lies behind the file.
+    for (generation, symbol) in [(0, 7), (1, 7), (2, 6)] {
+        let message = cut(&[0xFF], &ticket, generation);
+        assert_eq!(rt;
+            message.symbols(),
+            [symbol].as_slice(),
+            "generation {generation}"
+        );
+    }
+    Ok(())
+}
+
+#[test]
+fn three_messages_in_one_byte(rt: HostRuntime) -> Result<(), Fail> {
+    let ticket = one_byte(&rt)?;
+    let mut file = [0];
+    assert!(rt; join_symbols(5, Some(0), 0, &ticket, &mut file));
+    assert_eq!(rt; file, [0xA0]);
+    assert!(rt; join_symbols(1, Some(2), 3, &ticket, &mut file));
+    assert_eq!(rt; file, [0b0010_1001]);
+    Ok(())
+}
+
+#[test]
+fn a_missing_message_leaves_the_file(rt: HostRuntime) -> Result<(), Fail> {
+    let ticket = one_byte(&rt)?;
+    let mut file = [9];
+    assert!(rt; !join_symbols(5, None, 0, &ticket, &mut file));
+    assert_eq!(rt; file, [9]);
+    Ok(())
+}

@@ -1,0 +1,5 @@
+use Rattle.kk_code.proofs.Outcomes.{one_fault}
+use Rattle.kk_code.proofs.laws.text_has_one_fault.Goals as goal
+
+pub returns : goal.returns
+returns c = one_fault

@@ -1,0 +1,124 @@
+-- The grammar of a ticket's text, `kk1:SESSION:M:MOD:L:K:LENGTH`, and what is wrong with a text that is none.
+use Rattle.std.specs.Prelude.{◌≡◌, ℕ, ◌+◌, ◌^◌, ◌<◌, ◌≤◌, Bool, false, not, ◌&&◌, ◌||◌, if◌then◌else◌, ◌==◌, nat_lt, nat_le, List, [], ◌∷◌, length, slice_get, slice_index, slice_index_or, Option, Some, None, codes, bytes_eq}
+use Rattle.std.specs.List.{list_all, slice_split}
+use Rattle.std.specs.Option.{option_map_or}
+use Rattle.std.specs.Char.{is_ascii_digit}
+use Rattle.std.specs.Int.{is_in_range}
+use Rattle.std.specs.Str.Parse.{digits_value}
+use Rattle.kk_field.specs.Field.{polynomial}
+use Rattle.kk_field.specs.Polynomial.{IsIrreducible}
+use Rattle.kk_code.specs.Codeword.{Parameters, IsInRange, width}
+use Rattle.kk_code.specs.Ticket.{TicketFields, generations}
+
+-- the text cut at each colon
+abbrev pub fields : List ℕ → List (List ℕ)
+fields text = slice_split (λ c. c == 58) text
+
+-- field number i, counted from 0, and nothing where there is none
+abbrev pub field_at : List ℕ → ℕ → List ℕ
+field_at text i = slice_index_or (fields text) i []
+
+-- field number i is there and has the form
+abbrev pub has_form : (List ℕ → Bool) → List ℕ → ℕ → Bool
+has_form form text i = option_map_or form (slice_get (fields text) i) false
+
+-- the mark of this version
+abbrev pub is_mark : List ℕ → Bool
+is_mark text = bytes_eq text (codes "kk1")
+
+-- a character of 0-9 and a-f
+abbrev pub is_hex_digit : ℕ → Bool
+is_hex_digit c = is_ascii_digit c || is_in_range 97 102 c
+
+-- exactly w characters of 0-9 and a-f
+unfoldable pub is_hex : ℕ → List ℕ → Bool
+is_hex w text = length text == w && list_all is_hex_digit text
+
+-- 0, and another digit after it
+abbrev pub has_leading_zero : List ℕ → Bool
+has_leading_zero text = slice_index text 0 == 48 && nat_lt 1 (length text)
+
+-- 1 to 10 digits 0-9 with no leading zero; 0 itself is a decimal
+unfoldable pub is_decimal : List ℕ → Bool
+is_decimal text =
+    nat_lt 0 (length text) && nat_le (length text) 10 && not (has_leading_zero text) && list_all is_ascii_digit text
+
+-- what fields 0 to 6 have to be: the mark, SESSION, M, MOD, L, K and LENGTH
+abbrev pub forms : List (List ℕ → Bool)
+forms = is_mark ∷ is_hex 8 ∷ is_decimal ∷ is_hex 16 ∷ is_decimal ∷ is_decimal ∷ is_decimal ∷ []
+
+-- The first field, counted from n, that is missing or not of its form. Where each form has its field, it is the first
+-- field that is too many.
+unfoldable pub first_misshapen : ℕ → List (List ℕ → Bool) → List (List ℕ) → Option ℕ
+first_misshapen n [] [] = None
+first_misshapen n [] (field ∷ more) = Some n
+first_misshapen n (form ∷ others) [] = Some n
+first_misshapen n (form ∷ others) (field ∷ more) =
+    if form field then first_misshapen (n + 1) others more else Some n
+
+-- the number of the field at which the shape of the text is wrong
+abbrev pub shape_fault : List ℕ → Option ℕ
+shape_fault text = first_misshapen 0 forms (fields text)
+
+-- the numbers that the fields of a well-shaped text spell
+unfoldable pub spelled : List ℕ → TicketFields
+spelled text = record {
+  session = digits_value 16 (field_at text 1);
+  code = record {
+    field = record {
+      degree = digits_value 10 (field_at text 2);
+      low = digits_value 16 (field_at text 3);
+    };
+    l = digits_value 10 (field_at text 4);
+    k = digits_value 10 (field_at text 5);
+  };
+  length = digits_value 10 (field_at text 6);
+}
+
+-- The number of the first field that is out of its range: 2 for M, 3 for MOD, 4 for L and 5 for K.
+unfoldable pub range_fault : Parameters → Option ℕ
+range_fault p =
+    if not (nat_le 2 p.field.degree && nat_le p.field.degree 62) then Some 2
+    else (if not (nat_lt p.field.low (2 ^ p.field.degree)) then Some 3
+    else (if not (nat_le 1 p.l && nat_le p.l p.field.degree && nat_le (width p) 63) then Some 4
+    else (if not (nat_le 1 p.k && nat_le p.k p.l) then Some 5
+    else None)))
+
+-- the most messages that a transmission has
+abbrev pub most_generations : ℕ
+most_generations = 16384
+
+-- the fields that a ticket can have
+pub record IsTicket (t : TicketFields) : Type 0 where
+  pub session : t.session < 2 ^ 32
+  pub code : IsInRange t.code
+  pub irreducible : IsIrreducible (polynomial t.code.field)
+  pub few : generations t ≤ most_generations
+
+-- a text that is a ticket, with these fields
+pub record IsTicketText (text : List ℕ) (t : TicketFields) : Type 0 where
+  pub shape : shape_fault text ≡ None
+  pub spells : spelled text ≡ t
+  pub range : range_fault t.code ≡ None
+  pub irreducible : IsIrreducible (polynomial t.code.field)
+  pub few : generations t ≤ most_generations
+
+-- What is wrong with a text: a field is missing, too many or not of its form; a number is out of its range;
+-- X^M + low is a product of two polynomials of degree at least 1; the file takes more messages than a transmission has.
+pub data Fault : Type 0 where
+  Shape : (at : ℕ) → Fault
+  Range : (field : ℕ) → Fault
+  NotIrreducible : Fault
+  TooMany : (messages : ℕ) → Fault
+
+-- The fault that is told of a text: it is looked for in the order of the cases, each where none before it holds.
+abbrev pub IsFirstFault : List ℕ → Fault → Type 0
+IsFirstFault text (Shape at) = shape_fault text ≡ Some at
+IsFirstFault text (Range field) = (shape_fault text ≡ None) × (range_fault (spelled text).code ≡ Some field)
+IsFirstFault text NotIrreducible =
+    (shape_fault text ≡ None) × (range_fault (spelled text).code ≡ None)
+    × ¬ IsIrreducible (polynomial (spelled text).code.field)
+IsFirstFault text (TooMany messages) =
+    (shape_fault text ≡ None) × (range_fault (spelled text).code ≡ None)
+    × IsIrreducible (polynomial (spelled text).code.field)
+    × (generations (spelled text) ≡ messages) × (most_generations < messages)

@@ -1,0 +1,32 @@
+//! Laws of the definitions of tickets, each the contract of a function that does nothing.
+ghost use Rattle.kk_code.specs.Laws.{TextIsOfATicket, TicketHasItsText, TicketHasOneText, TextIsATicketOrFaulty, TicketHasNoFault, TextHasOneFault};
+
+/// What a text spells is a ticket: its numbers are in range, its modulus is irreducible, and its file isn't too long.
+pub fn text_is_of_a_ticket()
+    ensures { TextIsOfATicket }
+{}
+
+/// The text of a ticket is read back as that ticket.
+pub fn ticket_has_its_text()
+    ensures { TicketHasItsText }
+{}
+
+/// A ticket has no other text.
+pub fn ticket_has_one_text()
+    ensures { TicketHasOneText }
+{}
+
+/// A text that is no ticket has a first fault.
+pub fn text_is_a_ticket_or_faulty()
+    ensures { TextIsATicketOrFaulty }
+{}
+
+/// A text that is a ticket has no fault.
+pub fn ticket_has_no_fault()
+    ensures { TicketHasNoFault }
+{}
+
+/// A text has one first fault.
+pub fn text_has_one_fault()
+    ensures { TextHasOneFault }
+{}

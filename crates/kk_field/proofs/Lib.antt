@@ -1,0 +1,11 @@
+pub mod Sums
+pub mod Products
+pub mod Degrees
+pub mod Remainders
+pub mod Residues
+pub mod Divisors
+pub mod Fields
+pub mod RangeProducts
+pub mod Powers
+pub mod Elimination
+pub mod Criterion

@@ -1,0 +1,15 @@
+-- A frame of the program as a frame of the definitions.
+use Rattle.std.specs.Prelude.{Result, Ok, Err}
+use Rattle.kk_frame.specs.declared.fault.FrameFault.{FrameFault}
+use Rattle.kk_frame.specs.declared.frame.Frame.{Frame}
+use Rattle.kk_frame.specs.declared.frame.Frame.TheVariants as variants
+use Rattle.kk_frame.specs.Frame.{FrameValue, Vector, End}
+
+abbrev pub value : Frame → FrameValue
+value (variants.Vector generation row) = Vector generation row.0
+value variants.End = End
+
+-- what was read, seen so
+abbrev pub values : Result Frame FrameFault → Result FrameValue FrameFault
+values (Ok frame) = Ok (value frame)
+values (Err fault) = Err fault

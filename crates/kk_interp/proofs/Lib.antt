@@ -1,0 +1,3 @@
+pub mod PartSums
+pub mod Pairs
+pub mod States

@@ -1,0 +1,184 @@
+-- One part of a polynomial: the length and the value of its square plus a multiple of it, and of a combination of two.
+use Rattle.std.proofs.Common.{◌≡◌, ◌≢◌, ℕ, zero, suc, ◌^◌, ◌<◌, ◌≤◌, List, [], ◌∷◌, length, bit_xor, refl, sym, ap, ◌∙◌, arith, inl, inr}
+use Rattle.std.specs.Prelude.{slice_index}
+use Rattle.std.proofs.lemmas.Bool.{cases_lt}
+use Rattle.std.proofs.lemmas.List.{get_or_past}
+use Rattle.kk_field.specs.Polynomial.{IsIrreducible}
+use Rattle.kk_field.specs.Field.{Modulus, polynomial, field_product}
+use Rattle.kk_field.proofs.Residues.{field_product-zero}
+use Rattle.kk_linpoly.specs.LinPoly.{IsOver, value, trimmed, sum_of, scaled, squared_up}
+use Rattle.kk_linpoly.proofs.Trimmed.{slice_index-trimmed, trimmed-zeros, trimmed-trimmed, All-trimmed, degree-some, length-trimmed_of_degree}
+use Rattle.kk_linpoly.proofs.Coefficients.{slice_index-scaled, IsOver-sum_of, IsOver-scaled, IsOver-squared_up}
+use Rattle.kk_linpoly.proofs.DegreeLaws.{Leads, degree-leads, leads_or_zero, leads_from_degree, sum_of-past, Leads-sum_of_left, Leads-sum_of_right, Leads-scaled, Leads-squared_up}
+use Rattle.kk_linpoly.proofs.Values.{value-sum_of, value-scaled, value-squared_up, value-trimmed}
+use Rattle.kk_interp.specs.BiPoly.{IsPart}
+use Rattle.kk_interp.specs.Steps.{grown, raised_value, combined_value, IsRaisedPart, IsCombinedPart}
+
+-- ---- lengths and leading coefficients
+
+pub leads_of_length : (cs : List ℕ) (e : ℕ) → trimmed cs ≡ cs → length cs ≡ suc e → Leads cs e
+leads_of_length cs e same long = leads_from_degree cs e (degree-some cs e (ap length same ∙ long))
+
+pub length_of_leads : (cs : List ℕ) (e : ℕ) → Leads cs e → length (trimmed cs) ≡ suc e
+length_of_leads cs e leads = length-trimmed_of_degree cs e (degree-leads cs e leads)
+
+pub length-trimmed-at_most : (cs : List ℕ) (n : ℕ) → ((i : ℕ) → n ≤ i → slice_index cs i ≡ 0) → length (trimmed cs) ≤ n
+length-trimmed-at_most cs n past =
+    elim (leads_or_zero cs) [
+      | inl w ↦ elim (cases_lt w.0 n) [
+        | inl less ↦ omega (arith, length_of_leads cs w.0 w.1)
+        | inr more ↦ absurd (w.1.leading (past w.0 more))
+      ]
+      | inr none ↦ omega (arith, ap length (trimmed-zeros cs none))
+    ]
+
+Leads-trimmed : (cs : List ℕ) (e : ℕ) → Leads cs e → Leads (trimmed cs) e
+Leads-trimmed cs e h = record {
+  leading = λ z. h.leading (sym (slice_index-trimmed cs e) ∙ z);
+  past = λ i more. slice_index-trimmed cs i ∙ h.past i more;
+}
+
+trimmed-past : (cs : List ℕ) (n : ℕ) → ((i : ℕ) → n ≤ i → slice_index cs i ≡ 0) → (i : ℕ) → n ≤ i → slice_index (trimmed cs) i ≡ 0
+trimmed-past cs n past i from = slice_index-trimmed cs i ∙ past i from
+
+grown-suc : (n : ℕ) → grown (suc n) ≡ suc (suc n)
+unfolding grown
+grown-suc n = refl
+
+pub grown-zero : grown 0 ≡ 0
+unfolding grown
+grown-zero = refl
+
+pub grown-positive : (n : ℕ) → 0 < n → grown n ≡ suc n
+grown-positive zero h = absurd (omega arith)
+grown-positive (suc n) h = grown-suc n
+
+-- the sum of two parts without the zeros at its end
+pub IsPart-trimmed : (m : ℕ) (cs : List ℕ) → IsOver m cs → IsPart m (trimmed cs)
+IsPart-trimmed m cs over = record { over = All-trimmed (λ c. c < 2 ^ m) cs over; no_zero_at_end = trimmed-trimmed cs }
+
+pub raised_part : Modulus → ℕ → List ℕ → List ℕ
+raised_part f d cs = sum_of (trimmed (squared_up f cs)) (trimmed (scaled f d cs))
+
+pub raised_part-is : (f : Modulus) (d : ℕ) (cs : List ℕ) → raised_part f d cs ≡ sum_of (trimmed (squared_up f cs)) (trimmed (scaled f d cs))
+unfolding raised_part
+raised_part-is f d cs = refl
+
+pub combined_part : Modulus → ℕ → List ℕ → ℕ → List ℕ → List ℕ
+combined_part f a cs b ds = sum_of (trimmed (scaled f a cs)) (trimmed (scaled f b ds))
+
+pub combined_part-is : (f : Modulus) (a : ℕ) (cs : List ℕ) (b : ℕ) (ds : List ℕ)
+    → combined_part f a cs b ds ≡ sum_of (trimmed (scaled f a cs)) (trimmed (scaled f b ds))
+unfolding combined_part
+combined_part-is f a cs b ds = refl
+
+module _ (f : Modulus) (h : f.low < 2 ^ f.degree) (irreducible : IsIrreducible (polynomial f)) where
+  trimmed_over : (cs : List ℕ) → IsOver f.degree cs → IsOver f.degree (trimmed cs)
+  trimmed_over cs over = All-trimmed (λ c. c < 2 ^ f.degree) cs over
+
+  scaled-past : (a : ℕ) (cs : List ℕ) (n : ℕ) → length cs ≤ n → (i : ℕ) → n ≤ i → slice_index (trimmed (scaled f a cs)) i ≡ 0
+  scaled-past a cs n short =
+      trimmed-past (scaled f a cs) n
+      (λ i from. slice_index-scaled f h a cs i ∙ ap (field_product f a) (get_or_past cs i 0 (omega arith)) ∙ field_product-zero f h a)
+
+  scaled-leads : (a : ℕ) (cs : List ℕ) (e : ℕ) → a < 2 ^ f.degree → a ≢ 0 → IsPart f.degree cs → length cs ≡ suc e
+      → Leads (trimmed (scaled f a cs)) e
+  scaled-leads a cs e below some part long =
+      Leads-trimmed (scaled f a cs) e (Leads-scaled f h irreducible a cs e below some part.over (leads_of_length cs e part.no_zero_at_end long))
+
+  -- ---- the square plus a multiple
+
+  raised_zero : (d : ℕ) → length (trimmed (raised_part f d [])) ≡ 0
+  unfolding raised_part
+  raised_zero d =
+      let none : length (trimmed (raised_part f d [])) ≤ 0 =
+      length-trimmed-at_most (raised_part f d []) 0
+      (sum_of-past (trimmed (squared_up f [])) (trimmed (scaled f d [])) 0
+      (trimmed-past (squared_up f []) 0 (λ i from. zero_alone i))
+      (scaled-past d [] 0 (omega arith))) in
+      omega arith
+    where
+      zero_alone : (i : ℕ) → slice_index (0 ∷ []) i ≡ 0
+      zero_alone zero = refl
+      zero_alone (suc i) = refl
+
+  raised_leads : (d : ℕ) (cs : List ℕ) (e : ℕ) → IsPart f.degree cs → length cs ≡ suc e → Leads (raised_part f d cs) (suc e)
+  unfolding raised_part
+  raised_leads d cs e part long =
+      Leads-sum_of_left (trimmed (squared_up f cs)) (trimmed (scaled f d cs)) (suc e)
+      (Leads-trimmed (squared_up f cs) (suc e)
+      (Leads-squared_up f h irreducible cs e part.over (leads_of_length cs e part.no_zero_at_end long)))
+      (scaled-past d cs (suc e) (omega arith))
+
+  length-raised : (d : ℕ) (cs : List ℕ) → IsPart f.degree cs → length (trimmed (raised_part f d cs)) ≡ grown (length cs)
+  length-raised d [] part = raised_zero d ∙ sym grown-zero
+  length-raised d (c ∷ cs) part =
+      length_of_leads (raised_part f d (c ∷ cs)) (suc (length cs)) (raised_leads d (c ∷ cs) (length cs) part refl)
+      ∙ sym (grown-suc (length cs))
+
+  value-raised : (d : ℕ) (cs : List ℕ) (x : ℕ) → value f (trimmed (raised_part f d cs)) x ≡ raised_value f d (value f cs x)
+  unfolding raised_part
+  value-raised d cs x =
+      value-trimmed f h (raised_part f d cs) x
+      ∙ value-sum_of f h (trimmed (squared_up f cs)) (trimmed (scaled f d cs)) x
+      ∙ ap (λ v. bit_xor v (value f (trimmed (scaled f d cs)) x)) (value-trimmed f h (squared_up f cs) x ∙ value-squared_up f h cs x)
+      ∙ ap (bit_xor (field_product f (value f cs x) (value f cs x))) (value-trimmed f h (scaled f d cs) x ∙ value-scaled f h d cs x)
+
+  pub IsRaisedPart-raised : (d : ℕ) (cs : List ℕ) → IsPart f.degree cs → IsRaisedPart f d cs (trimmed (raised_part f d cs))
+  unfolding raised_part
+  IsRaisedPart-raised d cs part = record {
+    part = IsPart-trimmed f.degree (raised_part f d cs)
+        (IsOver-sum_of f.degree (trimmed (squared_up f cs)) (trimmed (scaled f d cs))
+        (trimmed_over (squared_up f cs) (IsOver-squared_up f h cs)) (trimmed_over (scaled f d cs) (IsOver-scaled f h d cs)));
+    grows = length-raised d cs part;
+    values = value-raised d cs;
+  }
+
+  -- ---- a combination
+
+  length-combined_left : (a b : ℕ) (cs ds : List ℕ) → a < 2 ^ f.degree → a ≢ 0 → IsPart f.degree cs → length ds < length cs
+      → length (trimmed (combined_part f a cs b ds)) ≡ length cs
+  unfolding combined_part
+  length-combined_left a b [] ds below some part less = absurd (omega arith)
+  length-combined_left a b (c ∷ cs) ds below some part less =
+      length_of_leads (combined_part f a (c ∷ cs) b ds) (length cs)
+      (Leads-sum_of_left (trimmed (scaled f a (c ∷ cs))) (trimmed (scaled f b ds)) (length cs)
+      (scaled-leads a (c ∷ cs) (length cs) below some part refl) (scaled-past b ds (length cs) (omega arith)))
+
+  length-combined_right : (a b : ℕ) (cs ds : List ℕ) → b < 2 ^ f.degree → b ≢ 0 → IsPart f.degree ds → length cs < length ds
+      → length (trimmed (combined_part f a cs b ds)) ≡ length ds
+  unfolding combined_part
+  length-combined_right a b cs [] below some part less = absurd (omega arith)
+  length-combined_right a b cs (d ∷ ds) below some part less =
+      length_of_leads (combined_part f a cs b (d ∷ ds)) (length ds)
+      (Leads-sum_of_right (trimmed (scaled f a cs)) (trimmed (scaled f b (d ∷ ds))) (length ds)
+      (scaled-past a cs (length ds) (omega arith)) (scaled-leads b (d ∷ ds) (length ds) below some part refl))
+
+  length-combined_at_most : (a b : ℕ) (cs ds : List ℕ) (n : ℕ) → length cs ≤ n → length ds ≤ n
+      → length (trimmed (combined_part f a cs b ds)) ≤ n
+  unfolding combined_part
+  length-combined_at_most a b cs ds n c_short d_short =
+      length-trimmed-at_most (combined_part f a cs b ds) n
+      (sum_of-past (trimmed (scaled f a cs)) (trimmed (scaled f b ds)) n (scaled-past a cs n c_short) (scaled-past b ds n d_short))
+
+  value-combined : (a b : ℕ) (cs ds : List ℕ) (x : ℕ)
+      → value f (trimmed (combined_part f a cs b ds)) x ≡ combined_value f a (value f cs x) b (value f ds x)
+  unfolding combined_part
+  value-combined a b cs ds x =
+      value-trimmed f h (combined_part f a cs b ds) x
+      ∙ value-sum_of f h (trimmed (scaled f a cs)) (trimmed (scaled f b ds)) x
+      ∙ ap (λ v. bit_xor v (value f (trimmed (scaled f b ds)) x)) (value-trimmed f h (scaled f a cs) x ∙ value-scaled f h a cs x)
+      ∙ ap (bit_xor (field_product f a (value f cs x))) (value-trimmed f h (scaled f b ds) x ∙ value-scaled f h b ds x)
+
+  pub IsCombinedPart-combined : (a b : ℕ) (cs ds : List ℕ) → a < 2 ^ f.degree → a ≢ 0 → b < 2 ^ f.degree → b ≢ 0
+      → IsPart f.degree cs → IsPart f.degree ds → IsCombinedPart f a cs b ds (trimmed (combined_part f a cs b ds))
+  unfolding combined_part
+  IsCombinedPart-combined a b cs ds a_below a_some b_below b_some c_part d_part = record {
+    part = IsPart-trimmed f.degree (combined_part f a cs b ds)
+        (IsOver-sum_of f.degree (trimmed (scaled f a cs)) (trimmed (scaled f b ds))
+        (trimmed_over (scaled f a cs) (IsOver-scaled f h a cs)) (trimmed_over (scaled f b ds) (IsOver-scaled f h b ds)));
+    left = length-combined_left a b cs ds a_below a_some c_part;
+    right = length-combined_right a b cs ds b_below b_some d_part;
+    at_most = length-combined_at_most a b cs ds;
+    values = value-combined a b cs ds;
+  }

@@ -1,0 +1,4 @@
+pub mod BiPoly
+pub mod Interpolation
+pub mod Steps
+pub mod Examples

@@ -1,0 +1,13 @@
+pub mod XorSums
+pub mod Trimmed
+pub mod Coefficients
+pub mod Loops
+pub mod Stored
+pub mod ComposeLoop
+pub mod Compositions
+pub mod Values
+pub mod DegreeLaws
+pub mod Roots
+pub mod Vanishings
+pub mod SumLaws
+pub mod Monomials

@@ -1,0 +1,43 @@
+use Rattle.std.proofs.Common.{arith, ◌≡◌, ◌+◌, ◌-◌, ◌<◌, ◌^◌, ◌++◌, List, ℕ, take, drop, map, replicate, ap, ◌∙◌, subst}
+use Rattle.std.proofs.lemmas.List.{length-map}
+use Rattle.kk_field.specs.Field.{Modulus, field_product}
+use Rattle.kk_linpoly.specs.LinPoly.{trimmed, squared_up}
+use Rattle.kk_linpoly.proofs.Coefficients.{IsOver-squared_up}
+use Rattle.kk_linpoly.proofs.Stored.{IsOver-trimmed, length-trimmed_of}
+use Rattle.kk_linpoly.proofs.ComposeLoop.{square_placed}
+use Rattle.kk_linpoly.proofs.lin_poly.LinPoly.square_up.Given.{Over}
+use Rattle.kk_linpoly.proofs.lin_poly.LinPoly.square_up.Goals as goal
+use Rattle.kk_linpoly.proofs.lin_poly.LinPoly.square_up.Goals.{After-from_array}
+
+squares_of : Modulus → List ℕ → List ℕ
+squares_of f cs = map (λ c. field_product f c c) cs
+
+value_is : (g : Over) (c : After-from_array g) → c.from_array.result ≡ trimmed (squared_up c.args.field.now c.args.self.now)
+unfolding squares_of
+value_is g c =
+    let k = c.self.inside.len + 1 - 1 in
+    c.from_array.ensures
+    ∙ ap (λ l. trimmed (take 1 (replicate 128 0) ++ (l ++ drop k (drop 1 (replicate 128 0)))))
+    (c.square_each.ensures.value ∙ ap (squares_of c.ring.result) (c.copy_from_slice.ensures.after ∙ c.coeffs.ensures.value)
+    ∙ ap (λ f. squares_of f c.args.self.now) c.ring.ensures.value)
+    ∙ square_placed (squares_of c.args.field.now c.args.self.now) k
+
+pub returns-clause-value : goal.returns-clause-value
+returns-clause-value g c = value_is g (goal.at.returns-clause-value g c).After-from_array
+
+pub returns-clause-of_field : goal.returns-clause-of_field
+returns-clause-of_field g c =
+    let f = c.args.field.now in
+    let low = subst (λ f. f.low < 2 ^ f.degree) c.ring.ensures.value c.ring.ensures.irreducible.modulus.low_below in
+    IsOver-trimmed f.degree c.from_array.result (squared_up f c.args.self.now)
+    (value_is g (goal.at.returns-clause-of_field g c).After-from_array) (IsOver-squared_up f low c.args.self.now)
+
+pub returns-clause-len : goal.returns-clause-len
+returns-clause-len g c =
+    let f = c.args.field.now in
+    let square : ℕ → ℕ = λ x. field_product f x x in
+    omega (
+      arith,
+      length-map c.args.self.now square,
+      length-trimmed_of c.from_array.result (squared_up f c.args.self.now) (value_is g (goal.at.returns-clause-len g c).After-from_array),
+    )

@@ -1,0 +1,4 @@
+pub mod LinPoly
+pub mod LinPolyExamples
+pub mod Storage
+pub mod Laws

@@ -1,0 +1,183 @@
+ghost use Rattle.std.specs.Prelude.{◌≡◌, ℕ, ◌+◌, ◌-◌, ◌*◌, ◌^◌, ◌<◌, ◌≤◌, ◌↔◌, length, max, IsTrue, All};
+ghost use Rattle.kk_rows.specs.Span.{in_span, IsIndependent};
+ghost use Rattle.kk_linpoly.specs.LinPoly.{IsOver, IsMonic, value, trimmed, degree, sum_of, scaled, composition, squared_up};
+
+use crate::places::{add_multiple, add_to, square_each, trimmed_len};
+use kk_field::{Field, Steps};
+use std::marker::Model;
+use std::sync::ledger::Ledger;
+
+/// How many coefficients a polynomial can have.
+const MAX_LEN: usize = 128;
+
+/// A linearised polynomial of degree at most 127: the sum of c_i·X^(2^i) over its coefficients c_i.
+///
+/// Clauses see the list of the coefficients, from c_0 up, without zeros at its end.
+#[derive(Clone, Debug, Drop)]
+pub struct LinPoly {
+    // 0 from place `len` on
+    coefficients: [u64; MAX_LEN],
+    len: usize,
+}
+
+impl Model for LinPoly {
+    ghost use Rattle.std.specs.Prelude.{List, ℕ, take};
+    ghost use Rattle.kk_linpoly.specs.Storage.{IsStored};
+
+    ghost Value = { List ℕ };
+
+    ghost view = { λ p. take p.len p.coefficients };
+
+    ghost invariant = { λ p. IsStored p.len p.coefficients };
+}
+
+impl LinPoly {
+    /// The polynomial with these coefficients, at most 128. Zeros at the end are dropped.
+    pub fn from_slice(c: &[u64]) -> LinPoly
+        requires { length c.now ≤ 128 }
+        ensures value { result ≡ trimmed c.now }
+        ensures len { length result ≤ length c.now }
+        ensures of_field { (m : ℕ) → IsOver m c.now → IsOver m result }
+    {
+        let mut coefficients = [0; MAX_LEN];
+        coefficients[..c.len()].copy_from_slice(c);
+        LinPoly::from_array(coefficients)
+    }
+
+    fn from_array(coefficients: [u64; MAX_LEN]) -> LinPoly
+        ensures { result ≡ trimmed coefficients }
+    {
+        let len = trimmed_len(&coefficients);
+        LinPoly { coefficients, len }
+    }
+
+    /// The coefficients, from that of X up. The last one isn't 0.
+    pub fn coeffs(&self) -> &[u64]
+        ensures value { result.now ≡ self.now }
+        ensures fits { length self.now ≤ 128 }
+        ensures no_zero_at_end { trimmed self.now ≡ self.now }
+    {
+        &self.coefficients[..self.len]
+    }
+
+    /// The last place whose coefficient isn't 0, or `None` for the zero polynomial.
+    pub fn degree(&self) -> Option<u32>
+        ensures { result ≡ degree self.now }
+    {
+        if self.len == 0 {
+            None
+        } else {
+            Some(self.len as u32 - 1)
+        }
+    }
+
+    /// The value at `x`.
+    pub fn eval<L: Ledger>(&self, field: &Field, x: u64, steps: &mut Steps<L>) -> u64
+        requires of_field { IsOver field.now.degree self.now }
+        requires x_below { x < 2 ^ field.now.degree }
+        ensures value { result ≡ value field.now self.now x }
+        ensures below { result < 2 ^ field.now.degree }
+        ensures cost { steps.new ≤ steps.old + 2 * length self.now }
+    {
+        let ring = field.ring();
+        let mut sum = 0;
+        let mut power = x;
+        for c in self.coeffs() {
+            sum ^= ring.mul(*c, power, steps);
+            power = ring.square(power, steps);
+        }
+        sum
+    }
+
+    /// The sum.
+    pub fn add(&self, g: &LinPoly) -> LinPoly
+        ensures value { result ≡ trimmed (sum_of self.now g.now) }
+        ensures len { length result ≤ max (length self.now) (length g.now) }
+        ensures of_field { (m : ℕ) → IsOver m self.now → IsOver m g.now → IsOver m result }
+    {
+        let mut sum = self.coefficients;
+        add_to(&mut sum, g.coeffs());
+        LinPoly::from_array(sum)
+    }
+
+    /// `c` times the polynomial.
+    pub fn scale<L: Ledger>(&self, field: &Field, c: u64, steps: &mut Steps<L>) -> LinPoly
+        requires of_field { IsOver field.now.degree self.now }
+        requires c_below { c < 2 ^ field.now.degree }
+        ensures value { result ≡ trimmed (scaled field.now c self.now) }
+        ensures len { length result ≤ length self.now }
+        ensures of_field { IsOver field.now.degree result }
+        ensures cost { steps.new ≤ steps.old + length self.now }
+    {
+        let mut product = [0; MAX_LEN];
+        add_multiple(&mut product, &field.ring(), c, self.coeffs(), steps);
+        LinPoly::from_array(product)
+    }
+
+    /// The square, which is the composition of X^2 and the polynomial. Its degree is one more, so at most 127 coefficients
+    /// have room for it.
+    pub fn square_up<L: Ledger>(&self, field: &Field, steps: &mut Steps<L>) -> LinPoly
+        requires of_field { IsOver field.now.degree self.now }
+        requires fits { length self.now ≤ 127 }
+        ensures value { result ≡ trimmed (squared_up field.now self.now) }
+        ensures len { length result ≤ length self.now + 1 }
+        ensures of_field { IsOver field.now.degree result }
+        ensures cost { steps.new ≤ steps.old + length self.now }
+    {
+        let mut square = [0; MAX_LEN];
+        let places = &mut square[1..self.len + 1];
+        places.copy_from_slice(self.coeffs());
+        square_each(places, &field.ring(), steps);
+        LinPoly::from_array(square)
+    }
+
+    /// The composition, whose value at x is the value of the polynomial at the value of `g` at x.
+    ///
+    /// Its degree is the sum of the degrees, so together the two have at most 129 coefficients.
+    pub fn compose<L: Ledger>(&self, field: &Field, g: &LinPoly, steps: &mut Steps<L>) -> LinPoly
+        requires of_field { IsOver field.now.degree self.now }
+        requires g_of_field { IsOver field.now.degree g.now }
+        requires fits { length self.now + length g.now ≤ 129 }
+        ensures value { result ≡ trimmed (composition field.now self.now g.now) }
+        ensures len { length result ≤ length self.now + length g.now - 1 }
+        ensures of_field { IsOver field.now.degree result }
+        ensures cost { steps.new ≤ steps.old + length self.now * length g.now * (length self.now + 1) }
+    {
+        let ring = field.ring();
+        let mut sum = [0; MAX_LEN];
+        // g^(2^i), in round i
+        let mut powers = g.coefficients;
+        for (i, c) in self.coeffs().iter().enumerate() {
+            add_multiple(&mut sum[i..], &ring, *c, &powers[..g.len], steps);
+            square_each(&mut powers[..g.len], &ring, steps);
+        }
+        LinPoly::from_array(sum)
+    }
+
+    /// The monic polynomial whose degree is the number of points and which is 0 at each of them: at most 127 points below
+    /// 2^m. Where they are independent over GF(2) there is one such polynomial ([`crate::laws::one_vanishing`]), the
+    /// minimal polynomial of their span, which is 0 nowhere else.
+    ///
+    /// With one point p more, V becomes V^2 + V(p)·V (O. Ore, "On a special class of polynomials", 1933).
+    pub fn vanishing<L: Ledger>(field: &Field, points: &[u64], steps: &mut Steps<L>) -> LinPoly
+        requires few { length points.now ≤ 127 }
+        requires points_below { All (λ p. p < 2 ^ field.now.degree) points.now }
+        ensures monic { IsMonic result (length points.now) }
+        ensures len { length result ≡ length points.now + 1 }
+        ensures zeros { All (λ p. value field.now result p ≡ 0) points.now }
+        ensures no_others { IsIndependent points.now → (x : ℕ) → x < 2 ^ field.now.degree
+            → (value field.now result x ≡ 0) ↔ IsTrue (in_span points.now x) }
+        ensures of_field { IsOver field.now.degree result }
+        ensures cost { steps.new ≤ steps.old + 2 * length points.now * (length points.now + 1) }
+    {
+        // For its contract: the modulus is irreducible, so that no other point is a zero.
+        let _ring = field.ring();
+        let mut v = LinPoly::from_slice(&[1]);
+        for p in points {
+            let at = v.eval(field, *p, steps);
+            let multiple = v.scale(field, at, steps);
+            v = v.square_up(field, steps).add(&multiple);
+        }
+        v
+    }
+}

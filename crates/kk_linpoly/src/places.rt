@@ -1,0 +1,59 @@
+//! Coefficients in a slice.
+ghost use Rattle.std.specs.Prelude.{◌≡◌, ◌+◌, ◌≤◌, ◌<◌, ◌^◌, length, map, take};
+ghost use Rattle.kk_field.specs.Field.{field_product};
+ghost use Rattle.kk_linpoly.specs.LinPoly.{IsOver, trimmed, sum_of, scaled};
+
+use kk_field::{Ring, Steps};
+use std::sync::ledger::Ledger;
+
+/// How many coefficients are left without the zeros at the end.
+pub(crate) fn trimmed_len(coefficients: &[u64]) -> usize
+    ensures within { result ≤ length coefficients.now }
+    ensures front { take result coefficients.now ≡ trimmed coefficients.now }
+{
+    let mut len = coefficients.len();
+    while len > 0 && coefficients[len - 1] == 0 {
+        len -= 1;
+    }
+    len
+}
+
+/// Adds the coefficients, place by place.
+pub(crate) fn add_to(sum: &mut [u64], coefficients: &[u64])
+    requires { length coefficients.now ≤ length sum.old }
+    ensures { sum.new ≡ sum_of sum.old coefficients.now }
+{
+    for (i, c) in coefficients.iter().enumerate() {
+        sum[i] ^= *c;
+    }
+}
+
+/// Adds `a` times the coefficients, place by place.
+pub(crate) fn add_multiple<L: Ledger>(
+    sum: &mut [u64],
+    ring: &Ring,
+    a: u64,
+    coefficients: &[u64],
+    steps: &mut Steps<L>,
+)
+    requires fits { length coefficients.now ≤ length sum.old }
+    requires a_below { a < 2 ^ ring.now.degree }
+    requires of_field { IsOver ring.now.degree coefficients.now }
+    ensures value { sum.new ≡ sum_of sum.old (scaled ring.now a coefficients.now) }
+    ensures cost { steps.new ≤ steps.old + length coefficients.now }
+{
+    for (i, c) in coefficients.iter().enumerate() {
+        sum[i] ^= ring.mul(a, *c, steps);
+    }
+}
+
+/// Squares each coefficient.
+pub(crate) fn square_each<L: Ledger>(coefficients: &mut [u64], ring: &Ring, steps: &mut Steps<L>)
+    requires { IsOver ring.now.degree coefficients.old }
+    ensures value { coefficients.new ≡ map (λ c. field_product ring.now c c) coefficients.old }
+    ensures cost { steps.new ≤ steps.old + length coefficients.old }
+{
+    for c in coefficients.iter_mut() {
+        *c = ring.square(*c, steps);
+    }
+}

@@ -1,0 +1,101 @@
+//! Worked values over GF(8) with the modulus X^3 + X + 1, where the powers of 2 are 1, 2, 4, 3, 6, 7, 5.
+ghost use Rattle.std.specs.Prelude.{◌≡◌, ◌<◌, IfSome};
+
+use crate::LinPoly;
+use kk_field::{Field, Ring, Steps};
+use std::marker::Brand;
+use std::sync::ledger::{Blank, Ledger};
+use std::test::Fail;
+
+fn gf8() -> Option<Field>
+    ensures { IfSome result (λ f. f ≡ record { degree = 3; low = 3 }) }
+{
+    let ring = Ring::new(3, 3);
+    if !ring.is_irreducible() {
+        return None;
+    }
+    Some(Field::of(ring))
+}
+
+// The vanishing polynomial of 1 and 2, and its values at 3, their sum, and at 4, where it is 5 + 4 + 2.
+fn of_one_and_two<L: Ledger>(blank: Blank) -> Option<(LinPoly, u64, u64)>
+    requires name { blank.name ≡ L.name }
+    requires parts { blank.parts ≡ L.parts }
+    requires some { 0 < blank.parts }
+{
+    let field = gf8()?;
+    let mut steps: Steps<L> = Steps::new(blank);
+    let v = LinPoly::vanishing(&field, &[1, 2], &mut steps);
+    let at_three = v.eval(&field, 3, &mut steps);
+    let at_four = v.eval(&field, 4, &mut steps);
+    Some((v, at_three, at_four))
+}
+
+#[test]
+fn vanishing_polynomial_of_two_points(rt: HostRuntime) -> Result<(), Fail> {
+    let (v, at_three, at_four) = of_one_and_two::<Brand>(Blank::new(1)).ok_or("reducible")?;
+    assert_eq!(rt; v.coeffs(), [6, 7, 1].as_slice());
+    assert_eq!(rt; v.degree(), Some(2));
+    assert_eq!(rt; (at_three, at_four), (0, 3));
+    Ok(())
+}
+
+// X^2 after 3·X, and 3·X after X^2.
+fn both_compositions<L: Ledger>(blank: Blank) -> Option<(LinPoly, LinPoly)>
+    requires name { blank.name ≡ L.name }
+    requires parts { blank.parts ≡ L.parts }
+    requires some { 0 < blank.parts }
+{
+    let field = gf8()?;
+    let mut steps: Steps<L> = Steps::new(blank);
+    let square = LinPoly::from_slice(&[0, 1]);
+    let three = LinPoly::from_slice(&[3]);
+    let of_three = square.compose(&field, &three, &mut steps);
+    let of_square = three.compose(&field, &square, &mut steps);
+    Some((of_three, of_square))
+}
+
+#[test]
+fn composition_does_not_commute(rt: HostRuntime) -> Result<(), Fail> {
+    let (of_three, of_square) = both_compositions::<Brand>(Blank::new(1)).ok_or("reducible")?;
+    assert_eq!(rt; of_three.coeffs(), [0, 5].as_slice());
+    assert_eq!(rt; of_square.coeffs(), [0, 3].as_slice());
+    Ok(())
+}
+
+// 2 times a polynomial, and the square of another.
+fn multiple_and_square<L: Ledger>(blank: Blank) -> Option<(LinPoly, LinPoly)>
+    requires name { blank.name ≡ L.name }
+    requires parts { blank.parts ≡ L.parts }
+    requires some { 0 < blank.parts }
+{
+    let field = gf8()?;
+    let mut steps: Steps<L> = Steps::new(blank);
+    let multiple = LinPoly::from_slice(&[1, 2, 4]).scale(&field, 2, &mut steps);
+    let square = LinPoly::from_slice(&[3]).square_up(&field, &mut steps);
+    Some((multiple, square))
+}
+
+#[test]
+fn a_multiple_and_a_square(rt: HostRuntime) -> Result<(), Fail> {
+    let (multiple, square) = multiple_and_square::<Brand>(Blank::new(1)).ok_or("reducible")?;
+    assert_eq!(rt; multiple.coeffs(), [2, 4, 3].as_slice());
+    assert_eq!(rt; square.coeffs(), [0, 5].as_slice());
+    Ok(())
+}
+
+#[test]
+fn zeros_at_the_end_are_dropped(rt: HostRuntime) -> Result<(), Fail> {
+    let f = LinPoly::from_slice(&[6, 7, 1, 0]);
+    assert_eq!(rt; f.coeffs(), [6, 7, 1].as_slice());
+    let g = LinPoly::from_slice(&[1, 7, 1]);
+    assert_eq!(rt; f.add(&g).coeffs(), [7].as_slice());
+    assert_eq!(rt; f.add(&f.clone()?).degree(), None);
+    Ok(())
+}
+
+#[test]
+fn the_highest_degree_is_127(rt: HostRuntime) {
+    let f = LinPoly::from_slice(&[1; 128]);
+    assert_eq!(rt; f.degree(), Some(127));
+}

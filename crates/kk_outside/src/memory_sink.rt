@@ -1,0 +1,120 @@
+// A sink into memory, of so much room, which fails where it is told to.
+ghost use Rattle.std.specs.Prelude.{◌≡◌, ◌↔◌, ◌≤◌, Some, length, IsErr, IfOk, OnErr};
+ghost use Rattle.kk_outside.specs.Causes.{HasCause};
+ghost use Rattle.kk_outside.specs.Writes.{WritesTo};
+ghost use Rattle.kk_outside.specs.SinkState.{unwritten, IsRefused, taken_count, after_write, after_failed_write};
+
+use crate::plan::Plan;
+use crate::{Alloc, Failed, Sink};
+use std::alloc::Global;
+use std::marker::Model;
+
+/// Keeps the bytes that are written, in pieces, up to its room. A write of a byte with no room left fails, and so do
+/// the calls whose numbers, counted from 0, are in `fails`; no others do.
+/// The count of calls stops at 2^64 - 1, as that of the faults does.
+#[derive(Drop)]
+pub struct MemorySink {
+    bytes: Vec<u8>,
+    room: usize,
+    piece: usize,
+    plan: Plan,
+}
+
+impl Model for MemorySink {
+    ghost use Rattle.std.specs.Prelude.{◌≤◌, length, vec_capacity};
+    ghost use Rattle.kk_outside.specs.SinkState.{SinkState};
+
+    ghost Value = { SinkState };
+
+    ghost view = { λ s. record {
+      written = s.bytes.items;
+      room = s.room;
+      piece = s.piece;
+      fails = s.plan.fails.items;
+      calls = s.plan.calls;
+      faults = s.plan.faults;
+    } };
+
+    ghost invariant = { λ s. (length s.bytes.items ≤ s.room) × (s.room ≤ vec_capacity s.bytes) × (1 ≤ s.piece) };
+}
+
+impl MemorySink {
+    /// An empty sink with room for `room` bytes, which it takes at once. A write takes at most `piece`.
+    pub fn new(
+        alloc: Global,
+        room: usize,
+        piece: usize,
+        fails: Vec<u64>,
+    ) -> Result<MemorySink, Alloc>
+        requires { 1 ≤ piece }
+        ensures { IfOk result (λ s. s ≡ unwritten room piece fails.items) }
+    {
+        Ok(MemorySink {
+            bytes: Vec::with_capacity(alloc, room)?,
+            room,
+            piece,
+            plan: Plan::new(fails),
+        })
+    }
+
+    /// How many calls failed.
+    pub fn faults(&self) -> u64
+        ensures { result ≡ self.now.faults }
+    {
+        self.plan.faults
+    }
+
+    /// What it holds.
+    pub fn bytes(&self) -> &[u8]
+        ensures held { result.now ≡ self.now.written }
+        ensures within { length result.now ≤ self.now.room }
+    {
+        &self.bytes
+    }
+}
+
+impl Sink for MemorySink {
+    ghost written = { λ s. Some s.written };
+
+    ghost faults = { λ s. s.faults };
+
+    fn write(&mut self, piece: &[u8]) -> Result<usize, Failed>
+        ensures fails { IsErr result ↔ IsRefused self.old piece.now }
+        ensures count { IfOk result (λ n. n ≡ taken_count self.old piece.now) }
+        ensures after { IfOk result (λ n. self.new ≡ after_write self.old piece.now n) }
+        ensures failed { OnErr result (self.new ≡ after_failed_write self.old) }
+
+        // what every sink says
+        ensures writes { WritesTo (Some self.old.written) (Some self.new.written) result piece.now }
+        ensures cause { HasCause self.old.faults self.new.faults result }
+    {
+        self.plan.call()?;
+        let room = self.room - self.bytes.len();
+        if room == 0 && !piece.is_empty() {
+            return Err(self.plan.fault());
+        }
+        let n = self.piece.min(piece.len()).min(room);
+        self.bytes.extend_from_slice(&piece[..n]).unwrap();
+        Ok(n)
+    }
+}
+
+#[cfg(test)]
+mod tests {
+    use super::*;
+    use std::test::Fail;
+
+    #[test]
+    fn fails_at_the_first_call_and_when_it_is_full(rt: HostRuntime) -> Result<(), Fail> {
+        let alloc = rt.alloc();
+        let mut sink = MemorySink::new(alloc, 4, 3, [0u64].to_vec(alloc)?)?;
+        assert_eq!(rt; sink.write(&[1, 2, 3, 4, 5]), Err(Failed));
+        assert_eq!(rt; sink.write(&[1, 2, 3, 4, 5]), Ok(3));
+        assert_eq!(rt; sink.write(&[4, 5]), Ok(1));
+        assert_eq!(rt; sink.write(&[5]), Err(Failed));
+        assert_eq!(rt; sink.write(&[]), Ok(0));
+        assert_eq!(rt; sink.bytes(), [1, 2, 3, 4].as_slice());
+        assert_eq!(rt; sink.faults(), 2);
+        Ok(())
+    }
+}

@@ -1,0 +1,106 @@
+// A source over bytes in memory, which fails where it is told to.
+ghost use Rattle.std.specs.Prelude.{◌≡◌, ◌↔◌, ◌≤◌, ◌++◌, Some, length, take, drop, Contains, IsErr, IfOk, OnErr};
+ghost use Rattle.kk_outside.specs.Causes.{HasCause};
+ghost use Rattle.kk_outside.specs.Reads.{ReadsFrom};
+ghost use Rattle.kk_outside.specs.SourceState.{unread, given_count, after_read, after_failed_read};
+
+use crate::plan::Plan;
+use crate::{Failed, Source};
+use std::marker::Model;
+
+/// Gives bytes that it holds, in pieces. The calls whose numbers, counted from 0, are in `fails` fail, and no others.
+/// The count of calls stops at 2^64 - 1, as that of the faults does.
+#[derive(Drop)]
+pub struct MemorySource {
+    bytes: Vec<u8>,
+    start: usize,
+    piece: usize,
+    plan: Plan,
+}
+
+impl Model for MemorySource {
+    ghost use Rattle.std.specs.Prelude.{◌≤◌, drop, length};
+    ghost use Rattle.kk_outside.specs.SourceState.{SourceState};
+
+    ghost Value = { SourceState };
+
+    ghost view = { λ s. record {
+      left = drop s.start s.bytes.items;
+      piece = s.piece;
+      fails = s.plan.fails.items;
+      calls = s.plan.calls;
+      faults = s.plan.faults;
+    } };
+
+    ghost invariant = { λ s. (s.start ≤ length s.bytes.items) × (1 ≤ s.piece) };
+}
+
+impl MemorySource {
+    /// A source of these bytes, of which a read gives at most `piece`.
+    pub fn new(bytes: Vec<u8>, piece: usize, fails: Vec<u64>) -> MemorySource
+        requires { 1 ≤ piece }
+        ensures { result ≡ unread bytes.items piece fails.items }
+    {
+        MemorySource {
+            bytes,
+            start: 0,
+            piece,
+            plan: Plan::new(fails),
+        }
+    }
+
+    /// How many calls failed.
+    pub fn faults(&self) -> u64
+        ensures { result ≡ self.now.faults }
+    {
+        self.plan.faults
+    }
+}
+
+impl Source for MemorySource {
+    ghost left = { λ s. Some s.left };
+
+    ghost faults = { λ s. s.faults };
+
+    fn read(&mut self, buf: &mut [u8]) -> Result<usize, Failed>
+        ensures fails { IsErr result ↔ Contains self.old.fails self.old.calls }
+        ensures count { IfOk result (λ n. n ≡ given_count self.old (length buf.old)) }
+        ensures bytes { IfOk result (λ n. buf.new ≡ take n self.old.left ++ drop n buf.old) }
+        ensures after { IfOk result (λ n. self.new ≡ after_read self.old n) }
+        ensures untouched { OnErr result (buf.new ≡ buf.old) }
+        ensures failed { OnErr result (self.new ≡ after_failed_read self.old) }
+
+        // what every source says
+        ensures reads { ReadsFrom (Some self.old.left) (Some self.new.left) result buf.new }
+        ensures cause { HasCause self.old.faults self.new.faults result }
+    {
+        self.plan.call()?;
+        let left = &self.bytes[self.start..];
+        let n = self.piece.min(buf.len()).min(left.len());
+        buf[..n].copy_from_slice(&left[..n]);
+        self.start += n;
+        Ok(n)
+    }
+}
+
+#[cfg(test)]
+mod tests {
+    use super::*;
+    use std::test::Fail;
+
+    #[test]
+    fn gives_pieces_and_fails_at_the_second_call(rt: HostRuntime) -> Result<(), Fail> {
+        let alloc = rt.alloc();
+        let bytes = [1u8, 2, 3, 4, 5].to_vec(alloc)?;
+        let mut source = MemorySource::new(bytes, 3, [1u64].to_vec(alloc)?);
+        let mut buf = [0; 4];
+        assert_eq!(rt; source.read(&mut buf), Ok(3));
+        assert_eq!(rt; buf.as_slice(), [1, 2, 3, 0].as_slice());
+        assert_eq!(rt; source.read(&mut buf), Err(Failed));
+        assert_eq!(rt; source.faults(), 1);
+        assert_eq!(rt; source.read(&mut buf), Ok(2));
+        assert_eq!(rt; buf.as_slice(), [4, 5, 3, 0].as_slice());
+        assert_eq!(rt; source.read(&mut buf), Ok(0));
+        Ok(())
+    }
+}

@@ -1,0 +1,109 @@
+// A sink over any writer of std.
+ghost use Rattle.std.specs.Prelude.{◌≡◌, None, OnErr};
+ghost use Rattle.std.specs.Io.KnownBytes.{WriteAppends};
+ghost use Rattle.kk_outside.specs.Causes.{HasCause, one_more};
+ghost use Rattle.kk_outside.specs.Writes.{WritesTo};
+
+use crate::{Failed, Sink};
+use std::io::Write;
+use std::marker::Model;
+
+/// Writes to a writer of std, and doesn't tell which bytes were written. Each error of the writer is a fault, and so is
+/// a write that takes none of the bytes that it is given. It never flushes: give it a writer that holds nothing back.
+#[derive(Drop)]
+pub struct StdSink<W: Write> {
+    writer: W,
+    faults: u64,
+}
+
+impl<W: Write> Model for StdSink<W> {
+    ghost use Rattle.kk_outside.specs.EdgeState.{EdgeState};
+
+    ghost Value = { EdgeState };
+
+    ghost view = { λ s. record { known = W.contents s.writer; faults = s.faults } };
+}
+
+impl<W: Write> StdSink<W> {
+    /// A sink over this writer, with no fault so far.
+    pub fn new(writer: W) -> StdSink<W>
+        ensures known { result.known ≡ W.contents writer }
+        ensures faults { result.faults ≡ 0 }
+    {
+        StdSink { writer, faults: 0 }
+    }
+
+    /// How many writes failed; the count stops at 2^64 - 1.
+    pub fn faults(&self) -> u64
+        ensures { result ≡ self.now.faults }
+    {
+        self.faults
+    }
+}
+
+impl<W: Write> Sink for StdSink<W> {
+    ghost written = { λ _. None };
+
+    ghost faults = { λ s. s.faults };
+
+    fn write(&mut self, piece: &[u8]) -> Result<usize, Failed>
+        ensures writer { WriteAppends self.old.known self.new.known result piece.now }
+        ensures failed { OnErr result (self.new.faults ≡ one_more self.old.faults) }
+
+        // what every sink says
+        ensures writes { WritesTo None None result piece.now }
+        ensures cause { HasCause self.old.faults self.new.faults result }
+    {
+        match self.writer.write(piece) {
+            Ok(n) if n > 0 || piece.is_empty() => Ok(n),
+            _ => {
+                self.faults = self.faults.saturating_add(1);
+                Err(Failed)
+            }
+        }
+    }
+}
+
+#[cfg(test)]
+mod tests {
+    use super::*;
+    use crate::write_all;
+    use std::io;
+    use std::test::Fail;
+
+    #[derive(Drop)]
+    struct Broken;
+
+    impl Write for Broken {
+        fn write(&mut self, _: &[u8]) -> io::Result<usize> {
+            Err(io::ErrorKind::Other.into())
+        }
+
+        fn flush(&mut self) -> io::Result<()> {
+            Ok(())
+        }
+    }
+
+    #[test]
+    fn writes_what_it_is_given(rt: HostRuntime) -> Result<(), Fail> {
+        let mut out = Vec::new(rt.alloc());
+        let mut sink = StdSink::new(&mut out);
+        assert_eq!(rt; write_all(&mut sink, &[1, 2, 3]), Ok(()));
+        assert_eq!(rt; sink.faults(), 0);
+        assert_eq!(rt; out.as_slice(), [1, 2, 3].as_slice());
+        Ok(())
+    }
+
+    #[test]
+    fn counts_errors_and_writes_that_take_nothing(rt: HostRuntime) -> Result<(), Fail> {
+        let mut broken = StdSink::new(Broken);
+        assert_eq!(rt; broken.write(&[1]), Err(Failed));
+        assert_eq!(rt; broken.faults(), 1);
+
+        let mut place = [0u8; 2];
+        let mut full = StdSink::new(&mut place[..]);
+        assert_eq!(rt; write_all(&mut full, &[1, 2, 3]), Err(Failed));
+        assert_eq!(rt; full.faults(), 1);
+        Ok(())
+    }
+}

@@ -1,0 +1,102 @@
+// A source over any reader of std.
+ghost use Rattle.std.specs.Prelude.{◌≡◌, None, OnErr};
+ghost use Rattle.std.specs.Io.KnownBytes.{ReadConsumes};
+ghost use Rattle.kk_outside.specs.Causes.{HasCause, one_more};
+ghost use Rattle.kk_outside.specs.Reads.{ReadsFrom};
+
+use crate::{Failed, Source};
+use std::io::Read;
+use std::marker::Model;
+
+/// Reads from a reader of std, and doesn't tell which bytes are left. Each error of the reader is a fault, one that says
+/// `Interrupted` too: nothing is tried again.
+#[derive(Drop)]
+pub struct StdSource<R: Read> {
+    reader: R,
+    faults: u64,
+}
+
+impl<R: Read> Model for StdSource<R> {
+    ghost use Rattle.kk_outside.specs.EdgeState.{EdgeState};
+
+    ghost Value = { EdgeState };
+
+    ghost view = { λ s. record { known = R.remaining s.reader; faults = s.faults } };
+}
+
+impl<R: Read> StdSource<R> {
+    /// A source over this reader, with no fault so far.
+    pub fn new(reader: R) -> StdSource<R>
+        ensures known { result.known ≡ R.remaining reader }
+        ensures faults { result.faults ≡ 0 }
+    {
+        StdSource { reader, faults: 0 }
+    }
+
+    /// How many reads failed; the count stops at 2^64 - 1.
+    pub fn faults(&self) -> u64
+        ensures { result ≡ self.now.faults }
+    {
+        self.faults
+    }
+}
+
+impl<R: Read> Source for StdSource<R> {
+    ghost left = { λ _. None };
+
+    ghost faults = { λ s. s.faults };
+
+    fn read(&mut self, buf: &mut [u8]) -> Result<usize, Failed>
+        ensures reader { ReadConsumes self.old.known self.new.known result buf.new }
+        ensures failed { OnErr result (self.new.faults ≡ one_more self.old.faults) }
+
+        // what every source says
+        ensures reads { ReadsFrom None None result buf.new }
+        ensures cause { HasCause self.old.faults self.new.faults result }
+    {
+        match self.reader.read(buf) {
+            Ok(n) => Ok(n),
+            Err(_) => {
+                self.faults = self.faults.saturating_add(1);
+                Err(Failed)
+            }
+        }
+    }
+}
+
+#[cfg(test)]
+mod tests {
+    use super::*;
+    use crate::fill;
+    use std::io;
+    use std::test::Fail;
+
+    #[derive(Drop)]
+    struct Broken;
+
+    impl Read for Broken {
+        fn read(&mut self, _: &mut [u8]) -> io::Result<usize> {
+            Err(io::ErrorKind::Other.into())
+        }
+    }
+
+    #[test]
+    fn reads_what_the_reader_gives(rt: HostRuntime) -> Result<(), Fail> {
+        let mut source = StdSource::new([1, 2, 3].as_slice());
+        let mut buf = [0; 8];
+        assert_eq!(rt; fill(&mut source, &mut buf), Ok(3));
+        assert_eq!(rt; &buf[..3], [1, 2, 3].as_slice());
+        assert_eq!(rt; source.faults(), 0);
+        Ok(())
+    }
+
+    #[test]
+    fn counts_the_errors_of_the_reader(rt: HostRuntime) -> Result<(), Fail> {
+        let mut source = StdSource::new(Broken);
+        let mut buf = [0; 8];
+        assert_eq!(rt; source.read(&mut buf), Err(Failed));
+        assert_eq!(rt; source.read(&mut buf), Err(Failed));
+        assert_eq!(rt; source.faults(), 2);
+        Ok(())
+    }
+}

@@ -1,0 +1,12 @@
+pub mod Sums
+pub mod Spans
+pub mod Counting
+pub mod Dimensions
+pub mod Leading
+pub mod Reduced
+pub mod RowLists
+pub mod Independence
+pub mod Meets
+pub mod Distances
+pub mod ReducedForm
+pub mod Traces

@@ -1,0 +1,6 @@
+-- Rows as numbers.
+use Rattle.std.specs.Prelude.{ℕ, List, map}
+use Rattle.kk_rows.specs.declared.rows.Row.{Row}
+
+abbrev pub numbers : List Row → List ℕ
+numbers rows = map (λ row. row.0) rows

@@ -1,0 +1,17 @@
+-- A row space as clauses see it.
+use Rattle.std.specs.Prelude.{◌≡◌, ℕ, ◌^◌, ◌<◌, ◌≤◌, List, All, length}
+use Rattle.kk_rows.specs.Echelon.{IsReduced}
+
+-- the width of the rows, and the rows of the span's reduced row echelon form, from the highest leading bit down
+pub record Space : Type 0 where
+  pub width : ℕ
+  pub rows : List ℕ
+
+-- what every row space keeps
+pub record IsRowSpace (width rank : ℕ) (rows : List ℕ) : Type 0 where
+  pub some_width : 0 < width
+  pub width_fits : width ≤ 63
+  pub rank_fits : rank ≤ width
+  pub counted : length rows ≡ rank
+  pub below : All (λ row. row < 2 ^ width) rows
+  pub reduced : IsReduced rows

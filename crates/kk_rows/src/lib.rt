@@ -1,0 +1,15 @@
+//! Row spaces over GF(2): the span of a few rows of at most 63 bits, kept in reduced row echelon form.
+//!
+//! A [`Row`] is a number: bit i is its coordinate i, and the sum of two rows is their exclusive or.
+#![tactic(auto)]
+
+mod echelon;
+mod errors;
+pub mod laws;
+mod row_space;
+mod rows;
+mod traced;
+
+pub use errors::Alloc;
+pub use row_space::RowSpace;
+pub use rows::Row;

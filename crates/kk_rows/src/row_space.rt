@@ -1,0 +1,240 @@
+ghost use Rattle.std.specs.Prelude.{◌≡◌, ℕ, ◌+◌, ◌^◌, ◌<◌, ◌≤◌, ◌↔◌, [], ◌∷◌, ◌++◌, ◌&&◌, false, bit_xor, IsTrue, IsSome, IfSome, IfNone, All};
+ghost use Rattle.kk_rows.specs.Span.{in_span, dimension};
+ghost use Rattle.kk_rows.specs.Distance.{sum_dimension, meet_dimension};
+ghost use Rattle.kk_rows.specs.Echelon.{IsClear, IsReduced};
+ghost use Rattle.kk_rows.specs.Rows.{numbers};
+
+use super::Row;
+use super::echelon::{insert_row, remainder};
+use super::traced::Traced;
+use std::marker::Model;
+
+/// How many rows a space can have: one for each bit of the widest.
+const MAX_RANK: usize = 63;
+
+/// The span of the rows inserted so far, in the space of the rows below 2^width.
+///
+/// It keeps the reduced row echelon form of the span. No call looks for a leading bit: a row's leading bit is 1 in `v`
+/// just where the sum of `v` and the row is less than `v`. So [`RowSpace::reduce`] takes one exclusive or and one
+/// comparison a row, and [`RowSpace::insert`] about three times that.
+#[derive(Clone, Debug, Drop)]
+pub struct RowSpace {
+    width: u32,
+    rank: u32,
+    rows: [Row; MAX_RANK],
+}
+
+impl Model for RowSpace {
+    ghost use Rattle.std.specs.Prelude.{take};
+    ghost use Rattle.kk_rows.specs.Rows.{numbers};
+    ghost use Rattle.kk_rows.specs.Space.{Space, IsRowSpace};
+
+    ghost Value = { Space };
+
+    ghost view = { λ s. record { width = s.width; rows = numbers (take s.rank s.rows) } };
+
+    ghost invariant = { λ s. IsRowSpace s.width s.rank (numbers (take s.rank s.rows)) };
+}
+
+impl RowSpace {
+    /// The span of no row, 0 alone, in the space of the rows below 2^n, where n is from 1 to 63.
+    pub fn new(n: u32) -> RowSpace
+        requires some { 1 ≤ n }
+        requires fits { n ≤ 63 }
+        ensures width { result.width ≡ n }
+        ensures rows { result.rows ≡ [] }
+    {
+        RowSpace {
+            width: n,
+            rank: 0,
+            rows: [Row(0); MAX_RANK],
+        }
+    }
+
+    /// The n of [`RowSpace::new`]: each row of the space is below 2^n.
+    pub fn width(&self) -> u32
+        ensures { result ≡ self.now.width }
+    {
+        self.width
+    }
+
+    /// The dimension of the span.
+    pub fn rank(&self) -> u32
+        ensures dimension { result ≡ dimension self.now.rows }
+        ensures within { result ≤ self.now.width }
+    {
+        self.rank
+    }
+
+    /// The reduced row echelon form of the span, from the highest leading bit down. A span has just one
+    /// ([`crate::laws::reduced_form_is_unique`]).
+    pub fn rows(&self) -> &[Row]
+        ensures rows { numbers result.now ≡ self.now.rows }
+        ensures reduced { IsReduced self.now.rows }
+        ensures below { All (λ row. row < 2 ^ self.now.width) self.now.rows }
+    {
+        &self.rows[..self.rank as usize]
+    }
+
+    /// What the span leaves of `v`, which is below 2^width: `v` with each leading bit of [`RowSpace::rows`] made 0 by
+    /// the addition of its row.
+    pub fn reduce(&self, v: Row) -> Row
+        requires { v.0 < 2 ^ self.now.width }
+        ensures difference { IsTrue (in_span self.now.rows (bit_xor v.0 result.0)) }
+        ensures clear { IsClear self.now.rows result.0 }
+        ensures zero { result.0 ≡ 0 ↔ IsTrue (in_span self.now.rows v.0) }
+        ensures below { result.0 < 2 ^ self.now.width }
+    {
+        remainder(&self.rows[..self.rank as usize], v)
+    }
+
+    /// Whether `v`, which is below 2^width, is a sum of rows of the space.
+    pub fn contains(&self, v: Row) -> bool
+        requires { v.0 < 2 ^ self.now.width }
+        ensures { result ≡ in_span self.now.rows v.0 }
+    {
+        self.reduce(v).0 == 0
+    }
+
+    /// Adds `v`, which is below 2^width, to the rows that span the space. `Some` of the new rank where `v` was outside
+    /// the span. `None`, with nothing changed, where it was in it.
+    pub fn insert(&mut self, v: Row) -> Option<u32>
+        requires { v.0 < 2 ^ self.old.width }
+        ensures outside { IsSome result ↔ (in_span self.old.rows v.0 ≡ false) }
+        ensures rank { IfSome result (λ n. n ≡ dimension self.old.rows + 1) }
+        ensures new_rank { IfSome result (λ n. n ≡ dimension self.new.rows) }
+        ensures same { IfNone result (self.new ≡ self.old) }
+        ensures span { (x : ℕ) → in_span self.new.rows x ≡ in_span (self.old.rows ++ v.0 ∷ []) x }
+        ensures width { self.new.width ≡ self.old.width }
+    {
+        let rest = self.reduce(v);
+        if rest.0 == 0 {
+            return None;
+        }
+        insert_row(&mut self.rows[..self.rank as usize + 1], rest);
+        self.rank += 1;
+        Some(self.rank)
+    }
+
+    /// The space of the sums of a row of `a` and a row of `b`, which have the same width.
+    pub fn sum(a: &RowSpace, b: &RowSpace) -> RowSpace
+        requires { a.now.width ≡ b.now.width }
+        ensures width { result.width ≡ a.now.width }
+        ensures span { (x : ℕ) → in_span result.rows x ≡ in_span (a.now.rows ++ b.now.rows) x }
+        ensures dimension { dimension result.rows ≡ sum_dimension a.now.rows b.now.rows }
+    {
+        let mut sum = RowSpace {
+            width: a.width,
+            rank: a.rank,
+            rows: a.rows,
+        };
+        for row in b.rows() {
+            let _ = sum.insert(*row);
+        }
+        sum
+    }
+
+    /// The dimension of the sum of `a` and `b`, which have the same width.
+    pub fn sum_dim(a: &RowSpace, b: &RowSpace) -> u32
+        requires { a.now.width ≡ b.now.width }
+        ensures { result ≡ sum_dimension a.now.rows b.now.rows }
+    {
+        RowSpace::sum(a, b).rank()
+    }
+
+    /// The space of the rows that `a` and `b`, which have the same width, have in common.
+    ///
+    /// It is the elimination of Zassenhaus's algorithm for the sum and the intersection of two spaces: each row of `a`
+    /// is paired with what `b` leaves of it, and the pairs are eliminated by the second part. The first parts of those
+    /// whose second part comes to 0 span the intersection.
+    pub fn meet(a: &RowSpace, b: &RowSpace) -> RowSpace
+        requires { a.now.width ≡ b.now.width }
+        ensures width { result.width ≡ a.now.width }
+        ensures span { (x : ℕ) → in_span result.rows x ≡ (in_span a.now.rows x && in_span b.now.rows x) }
+        ensures dimension { dimension result.rows ≡ meet_dimension a.now.rows b.now.rows }
+    {
+        let mut common = RowSpace::new(b.width);
+        let mut traces = [Traced::ZERO; MAX_RANK];
+        let mut len = 0;
+        for row in a.rows() {
+            let start = Traced {
+                source: *row,
+                image: b.reduce(*row),
+            };
+            let rest = start.cleared_by_all(&traces[..len]);
+            if rest.image.0 == 0 {
+                let _ = common.insert(rest.source);
+            } else {
+                traces[len] = rest;
+                len += 1;
+            }
+        }
+        common
+    }
+}
+
+#[cfg(test)]
+mod tests {
+    use super::*;
+    use std::test::Fail;
+
+    /// The span of 9, 18 and `last`, of six bits.
+    fn spanned(last: Row) -> RowSpace
+        requires { last.0 < 2 ^ 6 }
+        ensures { result.width ≡ 6 }
+    {
+        let mut space = RowSpace::new(6);
+        let _ = space.insert(Row(9));
+        let _ = space.insert(Row(18));
+        let _ = space.insert(last);
+        space
+    }
+
+    #[test]
+    fn inserts_count_the_rows_outside_the_span(rt: HostRuntime) -> Result<(), Fail> {
+        let mut space = RowSpace::new(6);
+        assert_eq!(rt; space.insert(Row(9)), Some(1));
+        assert_eq!(rt; space.insert(Row(18)), Some(2));
+        assert_eq!(rt; space.insert(Row(8)), Some(3));
+        assert_eq!(rt; space.insert(Row(1)), None);
+        assert_eq!(rt; space.rank(), 3);
+        assert_eq!(rt; space.width(), 6);
+        Ok(())
+    }
+
+    #[test]
+    fn rows_are_reduced(rt: HostRuntime) -> Result<(), Fail> {
+        let space = spanned(Row(8));
+        assert_eq!(rt; space.rows(), [Row(18), Row(8), Row(1)].as_slice());
+        assert_eq!(rt; space.reduce(Row(12)), Row(4));
+        assert!(rt; space.contains(Row(1)));
+        assert!(rt; !space.contains(Row(12)));
+        Ok(())
+    }
+
+    #[test]
+    fn two_spaces_meet_in_two_rows(rt: HostRuntime) -> Result<(), Fail> {
+        let a = spanned(Row(8));
+        let b = spanned(Row(36));
+        let meet = RowSpace::meet(&a, &b);
+        assert_eq!(rt; meet.rows(), [Row(18), Row(9)].as_slice());
+        assert_eq!(rt; RowSpace::sum_dim(&a, &b), 4);
+        assert_eq!(rt;
+            RowSpace::sum(&a, &b).rows(),
+            [Row(36), Row(18), Row(8), Row(1)].as_slice()
+        );
+        Ok(())
+    }
+
+    #[test]
+    fn the_widest_rows_fit(rt: HostRuntime) -> Result<(), Fail> {
+        let mut space = RowSpace::new(63);
+        assert_eq!(rt; space.insert(Row(0x7fff_ffff_ffff_ffff)), Some(1));
+        assert_eq!(rt; space.insert(Row(1)), Some(2));
+        assert_eq!(rt;
+            space.rows(),
+            [Row(0x7fff_ffff_ffff_fffe), Row(1)].as_slice()
+        );
+        Ok(())
+    }
+}

@@ -1,0 +1,10 @@
+use Rattle.std.proofs.Common.{◌≡◌, length, take}
+use Rattle.std.specs.Io.KnownBytes.{append_known}
+use Rattle.kk_top.specs.Report.{generation_lines, outcomes}
+use Rattle.kk_top.proofs.lines.write_generation_lines.Given as goal
+
+abbrev pub invariant-loop-number : goal.invariant-loop-number
+invariant-loop-number g l = record {
+  written : g.P.Sink.written l.report ≡ append_known (g.P.Sink.written l.fn.report) (generation_lines (take (length l.yielded) (outcomes l.spaces l.answers)));
+  same : g.P.Sink.faults l.report ≡ g.P.Sink.faults l.fn.report;
+}

@@ -1,0 +1,34 @@
+-- What the data frames that a receiver took decode to.
+use Rattle.std.specs.Prelude.{ℕ, ◌==◌, if◌then◌else◌, Option, List, [], ◌∷◌, ◌++◌, map, is_some}
+use Rattle.std.specs.List.{range_with_len}
+use Rattle.std.specs.Option.{option_map}
+use Rattle.kk_rows.specs.Span.{innovative, dimension}
+use Rattle.kk_code.specs.Decoding.{answer}
+use Rattle.kk_code.specs.Ticket.{TicketFields, generations}
+use Rattle.kk_assemble.specs.FileBits.{joined}
+use Rattle.kk_assemble.specs.Messages.{all_messages}
+use Rattle.kk_top.specs.Report.{count_line, generation_lines}
+
+-- the rows of generation g, in order
+unfoldable pub rows_of : ℕ → List (ℕ × ℕ) → List ℕ
+rows_of g [] = []
+rows_of g (vector ∷ vectors) = if vector.0 == g then vector.1 ∷ rows_of g vectors else rows_of g vectors
+
+-- the frozen space of generation g, by the rows that raised its dimension
+abbrev pub frozen : List (ℕ × ℕ) → ℕ → List ℕ
+frozen vectors g = innovative (rows_of g vectors)
+
+-- the answer of each generation
+abbrev pub answers : TicketFields → List (ℕ × ℕ) → List (Option (List ℕ))
+answers t vectors = map (λ g. answer t.code (frozen vectors g)) (range_with_len 0 (generations t))
+
+-- the file that the answers make, where every answer is a message
+abbrev pub file_text : TicketFields → List (ℕ × ℕ) → Option (List ℕ)
+file_text t vectors = option_map (joined t.code t.length) (all_messages (answers t vectors))
+
+-- What the report says of the generations: how many there are, and of each the dimension of its space and whether it
+-- has an answer.
+abbrev pub generations_text : TicketFields → List (ℕ × ℕ) → List ℕ
+generations_text t vectors =
+    count_line (generations t)
+    ++ generation_lines (map (λ g. (dimension (frozen vectors g), is_some (answer t.code (frozen vectors g)))) (range_with_len 0 (generations t)))
