@@ -1,7 +1,8 @@
-//! Left and right division with rest of linearised polynomials over GF(2^m).
+//! Left and right Euclidean division of linearised polynomials over GF(2^m).
 //!
-//! With composition as their product these polynomials are a ring of skew polynomials, which has both divisions (O. Ore,
-//! "On a special class of polynomials", 1933). Each cancels leading coefficients, the highest first, and takes no memory.
+//! With composition as their product these polynomials are the skew polynomial ring over GF(2^m) with the Frobenius map:
+//! X^2 ∘ c·X is c^2·X^2. It has both divisions (O. Ore, "On a special class of polynomials", 1933). Each cancels leading
+//! coefficients, the highest first, and takes no memory.
 #![tactic(auto)]
 
 pub use left::div_left;
