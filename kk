@@ -5,7 +5,7 @@ top=$(cd "$(dirname "${BASH_SOURCE[0]}")" && pwd) || exit 1
 program=$top/crates/kk_main/out/kk_main
 if [ ! -x "$program" ] || [ -n "$(find "$top/crates" "$top/crates.txt" -path '*/out' -prune -o -type f -newer "$program" \
     \( -path '*/src/*' -o -path '*/specs/*' -o -path '*/proofs/*' -o -name crates.txt \) -print -quit)" ]; then
-  echo "kk: building; the first time takes some ten minutes, since each crate is proved" >&2
+  echo "kk: building; the first time takes long, since each crate is proved" >&2
   rm -f "$program"
   log=$(mktemp) || exit 1
   (cd "$top/crates/kk_main" && rt run < /dev/null) > "$log" 2>&1
