@@ -10,3 +10,5 @@ pub mod Meets
 pub mod Distances
 pub mod ReducedForm
 pub mod Traces
+pub mod AdditiveMaps
+pub mod Examples

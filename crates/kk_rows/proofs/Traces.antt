@@ -1,6 +1,6 @@
 -- The elimination that finds a meet.
 use Rattle.std.proofs.Common.{◌≡◌, ℕ, ◌<◌, ◌≤◌, ◌^◌, true, ◌&&◌, ◌⊎◌, List, [], ◌∷◌, ◌++◌, fold, get_or, refl, sym, ap, ◌∙◌, subst, inl, inr, bit_xor, arith}
-use Rattle.std.specs.Prelude.{All, nat_lt}
+use Rattle.std.specs.Prelude.{All, nat_lt, map, IsTrue, ⊤}
 use Rattle.std.specs.Int.{bit_at}
 use Rattle.std.specs.Int.Bits.{xor_self, xor_zero_r}
 use Rattle.std.proofs.lemmas.Nat.{xor_comm}
@@ -11,11 +11,29 @@ use Rattle.std.proofs.lemmas.List.Elements.{All-nil, All-cons, All-head, All-tai
 use Rattle.kk_rows.specs.declared.traced.Traced.{Traced}
 use Rattle.kk_rows.specs.Span.{in_span}
 use Rattle.kk_rows.specs.Echelon.{IsClearAt, IsClear, IsReduced, cleared}
-use Rattle.kk_rows.specs.Traces.{sources, images, sum_of_traces, cleared_trace, IsTraced, IsStaircase}
+use Rattle.kk_rows.specs.Traces.{sum_of_traces, cleared_trace}
 use Rattle.kk_rows.proofs.Sums.{xor_twice, xor_swap, xor_four}
 use Rattle.kk_rows.proofs.Spans.{same_bool, in_span-nil, in_span-zero, in_span_skip, in_span_use, in_span_cases, in_span-xor, in_span-xor_back, in_span-lt, in_span-append_left, in_span-append_right, in_span-append_parts, in_span-append_same, in_span-push_cases, in_span-push_itself, in_span-push_same, in_span-push_shifted, in_span-moved}
 use Rattle.kk_rows.proofs.Leading.{zero_is_not_one, leading_bit}
 use Rattle.kk_rows.proofs.Reduced.{Reduces-from, IsClearAt-xor, in_span-clear, cleared_is_clear, zero_from_clear}
+
+-- the rows
+abbrev pub sources : List Traced → List ℕ
+sources ts = map (λ t. t.source.0) ts
+
+-- and what is left of them
+abbrev pub images : List Traced → List ℕ
+images ts = map (λ t. t.image.0) ts
+
+-- the image is what the span of the rows leaves of the source
+pub record IsTraced (rows : List ℕ) (t : Traced) : Type 0 where
+  pub differs : IsTrue (in_span rows (bit_xor t.source.0 t.image.0))
+  pub clear : IsClear rows t.image.0
+
+-- no image is 0, and those after one are clear at its leading bit
+abbrev pub IsStaircase : List Traced → Type 0
+IsStaircase [] = ⊤
+IsStaircase (t ∷ ts) = (0 < t.image.0) × All (λ s. IsClearAt t.image.0 s.image.0) ts × IsStaircase ts
 
 -- ---- one step, and all
 

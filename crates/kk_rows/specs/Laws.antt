@@ -1,8 +1,9 @@
--- The laws of dimension, meet and distance, over any rows.
-use Rattle.std.specs.Prelude.{◌≡◌, ℕ, ◌+◌, ◌≤◌, ◌↔◌, List, ◌&&◌, length}
+-- The laws of dimension, meet, distance and additive maps, over any rows.
+use Rattle.std.specs.Prelude.{◌≡◌, ℕ, ◌+◌, ◌^◌, ◌<◌, ◌≤◌, ◌↔◌, IsTrue, List, ◌&&◌, length}
 use Rattle.kk_rows.specs.Span.{in_span, dimension, IsIndependent, HaveSameSpan}
 use Rattle.kk_rows.specs.Distance.{meet_dimension, distance}
 use Rattle.kk_rows.specs.Echelon.{IsReduced}
+use Rattle.kk_rows.specs.AdditiveMap.{IsAdditive, MapsSpan, unit_rows}
 
 -- rows of the same span have the same dimension
 abbrev pub SpanDimensionIsUnique : Type 0
@@ -27,3 +28,15 @@ pub record DistanceIsAMetric : Type 0 where
 -- a span has one reduced row echelon form
 abbrev pub ReducedFormIsUnique : Type 0
 ReducedFormIsUnique = (us vs : List ℕ) → IsReduced us → IsReduced vs → HaveSameSpan us vs → us ≡ vs
+
+-- an additive map takes spans onto spans
+abbrev pub AdditiveMapsTakeSpansToSpans : Type 0
+AdditiveMapsTakeSpansToSpans = (g : ℕ → ℕ) → IsAdditive g → (rows : List ℕ) → MapsSpan g rows
+
+-- the rows with one coordinate 1, at the places below n, are a basis of the rows below 2^n
+pub record IsBasisBelow (n : ℕ) : Type 0 where
+  pub independent : IsIndependent (unit_rows n)
+  pub spans : (v : ℕ) → IsTrue (in_span (unit_rows n) v) ↔ (v < 2 ^ n)
+
+abbrev pub UnitRowsAreABasis : Type 0
+UnitRowsAreABasis = (n : ℕ) → IsBasisBelow n

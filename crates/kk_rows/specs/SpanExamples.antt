@@ -1,7 +1,9 @@
--- Worked values in the space of rows of six bits.
-use Rattle.std.specs.Prelude.{◌≡◌, refl, true, false, [], ◌∷◌}
+-- Worked values in the space of the rows of six bits.
+use Rattle.std.specs.Prelude.{◌≡◌, refl, true, false, [], ◌∷◌, fold}
+use Rattle.std.specs.Int.{bit_at}
 use Rattle.kk_rows.specs.Span.{in_span, innovative, innovative_behind}
 use Rattle.kk_rows.specs.Distance.{sum_dimension, meet_dimension, distance}
+use Rattle.kk_rows.specs.Echelon.{cleared}
 
 -- 9, 18 and 8 are independent, and 1 is the sum of 9 and 8
 pub three_innovative : innovative (9 ∷ 18 ∷ 8 ∷ 1 ∷ []) ≡ 9 ∷ 18 ∷ 8 ∷ []
@@ -29,3 +31,66 @@ meet_is_two = refl
 pub six_apart : distance (13 ∷ 17 ∷ 34 ∷ []) (8 ∷ 16 ∷ 32 ∷ []) ≡ 6
 unfolding innovative_behind in_span
 six_apart = refl
+
+-- ---- 18, 8, 1 is the reduced form of 9, 18, 8: proofs/Examples.antt has it as `IsReduced` and `HaveSameSpan`
+
+-- the leading bits are the bits 4, 3 and 0
+pub bit_four_of_eighteen : bit_at 18 4 ≡ 1
+bit_four_of_eighteen = refl
+
+pub bit_three_of_eight : bit_at 8 3 ≡ 1
+bit_three_of_eight = refl
+
+pub bit_zero_of_one : bit_at 1 0 ≡ 1
+bit_zero_of_one = refl
+
+-- and each is 0 in the two other rows
+pub eighteen_at_three : bit_at 18 3 ≡ 0
+eighteen_at_three = refl
+
+pub eighteen_at_zero : bit_at 18 0 ≡ 0
+eighteen_at_zero = refl
+
+pub eight_at_four : bit_at 8 4 ≡ 0
+eight_at_four = refl
+
+pub eight_at_zero : bit_at 8 0 ≡ 0
+eight_at_zero = refl
+
+pub one_at_four : bit_at 1 4 ≡ 0
+one_at_four = refl
+
+pub one_at_three : bit_at 1 3 ≡ 0
+one_at_three = refl
+
+-- each row of the one is in the span of the other
+pub inserted_one : in_span (18 ∷ 8 ∷ 1 ∷ []) 9 ≡ true
+unfolding in_span
+inserted_one = refl
+
+pub inserted_two : in_span (18 ∷ 8 ∷ 1 ∷ []) 18 ≡ true
+unfolding in_span
+inserted_two = refl
+
+pub inserted_three : in_span (18 ∷ 8 ∷ 1 ∷ []) 8 ≡ true
+unfolding in_span
+inserted_three = refl
+
+pub reduced_one : in_span (9 ∷ 18 ∷ 8 ∷ []) 18 ≡ true
+unfolding in_span
+reduced_one = refl
+
+pub reduced_two : in_span (9 ∷ 18 ∷ 8 ∷ []) 8 ≡ true
+unfolding in_span
+reduced_two = refl
+
+pub reduced_three : in_span (9 ∷ 18 ∷ 8 ∷ []) 1 ≡ true
+unfolding in_span
+reduced_three = refl
+
+-- it leaves 4 of 12, and nothing of 27
+pub four_is_left : fold cleared 12 (18 ∷ 8 ∷ 1 ∷ []) ≡ 4
+four_is_left = refl
+
+pub nothing_is_left : fold cleared 27 (18 ∷ 8 ∷ 1 ∷ []) ≡ 0
+nothing_is_left = refl

@@ -10,11 +10,11 @@ use super::Row;
 pub(crate) fn remainder(rows: &[Row], v: Row) -> Row
     ensures { result.0 ≡ fold cleared v.0 (numbers rows.now) }
 {
-    let mut rest = v;
+    let mut remainder = v;
     for row in rows {
-        rest = rest.cleared_by(*row);
+        remainder = remainder.cleared_by(*row);
     }
-    rest
+    remainder
 }
 
 /// Makes `lead`'s leading bit 0 in each row.

@@ -1,3 +1,4 @@
+//! The one error of calls that ask for memory.
 use std::alloc::{AllocError, AllocFailed};
 use std::error::Error;
 use std::fmt;

@@ -8,8 +8,10 @@ mod errors;
 pub mod laws;
 mod row_space;
 mod rows;
+#[cfg(test)]
+mod tests;
 mod traced;
 
 pub use errors::Alloc;
-pub use row_space::RowSpace;
+pub use row_space::{MAX_WIDTH, RowSpace};
 pub use rows::Row;

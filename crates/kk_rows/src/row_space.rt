@@ -1,27 +1,29 @@
+//! The span of the rows inserted so far: membership, rank, sum and meet.
 ghost use Rattle.std.specs.Prelude.{◌≡◌, ℕ, ◌+◌, ◌^◌, ◌<◌, ◌≤◌, ◌↔◌, [], ◌∷◌, ◌++◌, ◌&&◌, false, bit_xor, IsTrue, IsSome, IfSome, IfNone, All};
 ghost use Rattle.kk_rows.specs.Span.{in_span, dimension};
 ghost use Rattle.kk_rows.specs.Distance.{sum_dimension, meet_dimension};
 ghost use Rattle.kk_rows.specs.Echelon.{IsClear, IsReduced};
 ghost use Rattle.kk_rows.specs.Rows.{numbers};
+ghost use Rattle.kk_rows.specs.declared.row_space.TheConstants.{MAX_WIDTH};
 
 use super::Row;
 use super::echelon::{insert_row, remainder};
 use super::traced::Traced;
 use std::marker::Model;
 
-/// How many rows a space can have: one for each bit of the widest.
-const MAX_RANK: usize = 63;
+/// The width of the widest rows, and so the largest rank.
+pub const MAX_WIDTH: u32 = 63;
 
 /// The span of the rows inserted so far, in the space of the rows below 2^width.
 ///
-/// It keeps the reduced row echelon form of the span. No call looks for a leading bit: a row's leading bit is 1 in `v`
-/// just where the sum of `v` and the row is less than `v`. So [`RowSpace::reduce`] takes one exclusive or and one
-/// comparison a row, and [`RowSpace::insert`] about three times that.
+/// It keeps the reduced row echelon form of the span, by Gauss-Jordan elimination, one row at a time. No call looks for a
+/// leading bit: a row's leading bit is 1 in `v` exactly where the sum of `v` and the row is less than `v`. So
+/// [`RowSpace::reduce`] takes one exclusive or and one comparison a row, and [`RowSpace::insert`] about three times that.
 #[derive(Clone, Debug, Drop)]
 pub struct RowSpace {
     width: u32,
     rank: u32,
-    rows: [Row; MAX_RANK],
+    rows: [Row; MAX_WIDTH as usize],
 }
 
 impl Model for RowSpace {
@@ -40,20 +42,22 @@ impl RowSpace {
     /// The span of no row, 0 alone, in the space of the rows below 2^n, where n is from 1 to 63.
     pub fn new(n: u32) -> RowSpace
         requires some { 1 ≤ n }
-        requires fits { n ≤ 63 }
+        requires fits { n ≤ MAX_WIDTH }
         ensures width { result.width ≡ n }
         ensures rows { result.rows ≡ [] }
     {
         RowSpace {
             width: n,
             rank: 0,
-            rows: [Row(0); MAX_RANK],
+            rows: [Row(0); MAX_WIDTH as usize],
         }
     }
 
     /// The n of [`RowSpace::new`]: each row of the space is below 2^n.
     pub fn width(&self) -> u32
-        ensures { result ≡ self.now.width }
+        ensures width { result ≡ self.now.width }
+        ensures some { 1 ≤ result }
+        ensures fits { result ≤ MAX_WIDTH }
     {
         self.width
     }
@@ -66,7 +70,7 @@ impl RowSpace {
         self.rank
     }
 
-    /// The reduced row echelon form of the span, from the highest leading bit down. A span has just one
+    /// The reduced row echelon form of the span, from the highest leading bit down. A span has exactly one
     /// ([`crate::laws::reduced_form_is_unique`]).
     pub fn rows(&self) -> &[Row]
         ensures rows { numbers result.now ≡ self.now.rows }
@@ -107,11 +111,11 @@ impl RowSpace {
         ensures span { (x : ℕ) → in_span self.new.rows x ≡ in_span (self.old.rows ++ v.0 ∷ []) x }
         ensures width { self.new.width ≡ self.old.width }
     {
-        let rest = self.reduce(v);
-        if rest.0 == 0 {
+        let remainder = self.reduce(v);
+        if remainder.0 == 0 {
             return None;
         }
-        insert_row(&mut self.rows[..self.rank as usize + 1], rest);
+        insert_row(&mut self.rows[..self.rank as usize + 1], remainder);
         self.rank += 1;
         Some(self.rank)
     }
@@ -137,7 +141,8 @@ impl RowSpace {
     /// The dimension of the sum of `a` and `b`, which have the same width.
     pub fn sum_dim(a: &RowSpace, b: &RowSpace) -> u32
         requires { a.now.width ≡ b.now.width }
-        ensures { result ≡ sum_dimension a.now.rows b.now.rows }
+        ensures dimension { result ≡ sum_dimension a.now.rows b.now.rows }
+        ensures within { result ≤ a.now.width }
     {
         RowSpace::sum(a, b).rank()
     }
@@ -154,18 +159,18 @@ impl RowSpace {
         ensures dimension { dimension result.rows ≡ meet_dimension a.now.rows b.now.rows }
     {
         let mut common = RowSpace::new(b.width);
-        let mut traces = [Traced::ZERO; MAX_RANK];
+        let mut traces = [Traced::ZERO; MAX_WIDTH as usize];
         let mut len = 0;
         for row in a.rows() {
             let start = Traced {
                 source: *row,
                 image: b.reduce(*row),
             };
-            let rest = start.cleared_by_all(&traces[..len]);
-            if rest.image.0 == 0 {
-                let _ = common.insert(rest.source);
+            let cleared = start.cleared_by_all(&traces[..len]);
+            if cleared.image.0 == 0 {
+                let _ = common.insert(cleared.source);
             } else {
-                traces[len] = rest;
+                traces[len] = cleared;
                 len += 1;
             }
         }

@@ -1,3 +1,4 @@
+//! A row, and the sum that makes a leading bit 0.
 ghost use Rattle.std.specs.Prelude.{◌≡◌, List, map};
 ghost use Rattle.kk_rows.specs.Echelon.{cleared};
 

@@ -1,3 +1,4 @@
+//! The pairs of rows that the elimination for a meet works on.
 ghost use Rattle.std.specs.Prelude.{◌≡◌, fold};
 ghost use Rattle.kk_rows.specs.Traces.{cleared_trace};
 
@@ -35,10 +36,10 @@ impl Traced {
     pub(crate) fn cleared_by_all(self, leads: &[Traced]) -> Traced
         ensures { result ≡ fold cleared_trace self leads.now }
     {
-        let mut rest = self;
+        let mut cleared = self;
         for lead in leads {
-            rest = rest.cleared_by(*lead);
+            cleared = cleared.cleared_by(*lead);
         }
-        rest
+        cleared
     }
 }

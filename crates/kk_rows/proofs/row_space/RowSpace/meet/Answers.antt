@@ -7,13 +7,12 @@ use Rattle.kk_rows.specs.Rows.{numbers}
 use Rattle.kk_rows.specs.Space.{Space}
 use Rattle.kk_rows.specs.Span.{in_span}
 use Rattle.kk_rows.specs.Echelon.{IsReduced}
-use Rattle.kk_rows.specs.Traces.{IsTraced}
 use Rattle.kk_rows.proofs.Reduced.{length_reduced-le}
 use Rattle.kk_rows.proofs.Meets.{meet_dimension_of_common}
 use Rattle.kk_rows.proofs.RowLists.{numbers-take_more, numbers_each, numbers_taken_each}
-use Rattle.kk_rows.proofs.Traces.{MeetSoFar, meet_none, rest_below, meet_inserted, meet_traced, meet_all}
+use Rattle.kk_rows.proofs.Traces.{IsTraced, MeetSoFar, meet_none, rest_below, meet_inserted, meet_traced, meet_all}
 use Rattle.kk_rows.proofs.row_space.RowSpace.meet.Goals as goal
-use Rattle.kk_rows.proofs.row_space.RowSpace.meet.Goals.{After-rows-row-items, After-loop-row, After-cleared_by_all-rest, then-rest-eq0, else-rest-eq0}
+use Rattle.kk_rows.proofs.row_space.RowSpace.meet.Goals.{After-rows-row-items, After-loop-row, After-cleared_by_all-cleared, then-cleared-eq0, else-cleared-eq0}
 
 -- the rows of `a` are as narrow as those of `b`
 items_below : (c : After-rows-row-items) → All (λ r. r < 2 ^ c.args.b.now.width) (numbers c.rows-row-items.result.now)
@@ -63,7 +62,7 @@ insert-requires c =
     let start : Traced = record { source = u; image = c.reduce.result } in
     let each = numbers_taken_each (λ r. r < 2 ^ c.args.b.now.width) items c.loop-row.row-index (items_below (goal.at.insert-requires c).After-rows-row-items) (omega arith) in
     let traced : IsTraced c.args.b.now.rows start = record { differs = c.reduce.ensures.difference; clear = c.reduce.ensures.clear } in
-    rw c.loop-row.invariant.width (rest_below (numbers (take c.loop-row.row-index items)) c.args.b.now.rows c.loop-row.common.rows (take c.loop-row.len c.loop-row.traces) u.0 start c.cleared_by_all-rest.result c.loop-row.invariant.so_far refl traced c.cleared_by_all-rest.ensures c.args.b.now.width each)
+    rw c.loop-row.invariant.width (rest_below (numbers (take c.loop-row.row-index items)) c.args.b.now.rows c.loop-row.common.rows (take c.loop-row.len c.loop-row.traces) u.0 start c.cleared_by_all-cleared.result c.loop-row.invariant.so_far refl traced c.cleared_by_all-cleared.ensures c.args.b.now.width each)
 
 pub loop-row-preserved : goal.loop-row-preserved
 loop-row-preserved c =
@@ -72,22 +71,22 @@ loop-row-preserved c =
     let u = get_or items i record { 0 = 0 } in
     let vs = c.args.b.now.rows in
     let ts = take c.loop-row.len c.loop-row.traces in
-    let rest = c.cleared_by_all-rest.result in
+    let left = c.cleared_by_all-cleared.result in
     let few = items_few (goal.at.loop-row-preserved c).After-rows-row-items in
     let start : Traced = record { source = u; image = c.reduce.result } in
     let traced : IsTraced vs start = record { differs = c.reduce.ensures.difference; clear = c.reduce.ensures.clear } in
     let next = numbers-take_more items i (omega arith) in
-    elim c.if-rest-eq0.branch [
-      | then-rest-eq0 w ↦
-          let made = meet_inserted (numbers (take i items)) vs c.loop-row.common.rows ts u.0 start rest c.loop-row.invariant.so_far refl traced c.cleared_by_all-rest.ensures w.insert.new.self.rows w.if-rest-eq0.true w.insert.ensures.span in
+    elim c.if-cleared-eq0.branch [
+      | then-cleared-eq0 w ↦
+          let made = meet_inserted (numbers (take i items)) vs c.loop-row.common.rows ts u.0 start left c.loop-row.invariant.so_far refl traced c.cleared_by_all-cleared.ensures w.insert.new.self.rows w.if-cleared-eq0.true w.insert.ensures.span in
           record {
             width = ap (λ (s : Space). s.width) w.common-is ∙ w.insert.ensures.width ∙ c.loop-row.invariant.width;
             room = omega (arith, w.len-is, c.loop-row.invariant.room);
             so_far = rw (next, w.common-is, w.len-is, w.traces-is) made;
           }
-      | else-rest-eq0 w ↦
-          let made = meet_traced (numbers (take i items)) vs c.loop-row.common.rows ts u.0 start rest c.loop-row.invariant.so_far refl traced c.cleared_by_all-rest.ensures w.if-rest-eq0.false in
-          let more = take_more_set c.loop-row.traces c.loop-row.len rest (omega (arith, c.loop-row.invariant.room, c.reduce.array_long)) in
+      | else-cleared-eq0 w ↦
+          let made = meet_traced (numbers (take i items)) vs c.loop-row.common.rows ts u.0 start left c.loop-row.invariant.so_far refl traced c.cleared_by_all-cleared.ensures w.if-cleared-eq0.false in
+          let more = take_more_set c.loop-row.traces c.loop-row.len left (omega (arith, c.loop-row.invariant.room, c.reduce.array_long)) in
           record {
             width = ap (λ (s : Space). s.width) w.common-is ∙ c.loop-row.invariant.width;
             room = omega (arith, w.len-is, c.loop-row.invariant.room);
