@@ -79,13 +79,13 @@ module _ (map : ℕ → ℕ) (additive : (a b : ℕ) → map (bit_xor a b) ≡ b
 
   -- the rest of the image of X^i is an image
   rest_origin : (old new : List ℕ) (i : ℕ) → Covers map old i → (s : Inserts old new (map (2 ^ i)))
-      → (w : ℕ) × HasDegree w i × (map w ≡ s.rest)
+      → (w : ℕ) × HasDegree w i × (map w ≡ s.left)
   rest_origin old new i c s =
       let v = map (2 ^ i) in
-      let w = origin_of old i (bit_xor v s.rest) c s.in_span in (
+      let w = origin_of old i (bit_xor v s.left) c s.in_span in (
         bit_xor (2 ^ i) w.0,
         HasDegree-xor (2 ^ i) w.0 i (HasDegree-pow i) w.1,
-        additive (2 ^ i) w.0 ∙ ap (bit_xor v) w.2 ∙ xor_cancel v s.rest,
+        additive (2 ^ i) w.0 ∙ ap (bit_xor v) w.2 ∙ xor_cancel v s.left,
       )
 
   -- a number that is not below 2^i, less the rest's origin
@@ -93,11 +93,11 @@ module _ (map : ℕ → ℕ) (additive : (a b : ℕ) → map (bit_xor a b) ≡ b
   lowered i a w below least d = xor_top i a w (record { at_least = least; below = below }) d
 
   new_entry : (old new : List ℕ) (v t : ℕ) → (s : Inserts old new v)
-      → ((t ≡ s.place) × (slice_index new t ≡ s.rest)) ⊎ ((t ≡ s.place → ⊥) × (slice_index new t ≡ slice_index old t))
+      → ((t ≡ s.place) × (slice_index new t ≡ s.left)) ⊎ ((t ≡ s.place → ⊥) × (slice_index new t ≡ slice_index old t))
   new_entry old new v t s =
       elim (cases_eq t s.place) [
-        | inl e ↦ inl (e, ap (λ l. slice_index l t) s.set ∙ ap (slice_index (slice_set old s.place s.rest)) e ∙ get_or-set_same old s.place s.rest 0 s.within)
-        | inr apart ↦ inr (apart, ap (λ l. slice_index l t) s.set ∙ get_or-set_other old s.place t s.rest 0 apart)
+        | inl e ↦ inl (e, ap (λ l. slice_index l t) s.set ∙ ap (slice_index (slice_set old s.place s.left)) e ∙ get_or-set_same old s.place s.left 0 s.within)
+        | inr apart ↦ inr (apart, ap (λ l. slice_index l t) s.set ∙ get_or-set_other old s.place t s.left 0 apart)
       ]
 
   module _ (old new : List ℕ) (i : ℕ) (c : Covers map old i) (s : Inserts old new (map (2 ^ i))) where
@@ -111,7 +111,7 @@ module _ (map : ℕ → ℕ) (additive : (a b : ℕ) → map (bit_xor a b) ≡ b
           | inr h ↦ let w = c.origin t in (w.0, omega (arith, w.1, wider), w.2 ∙ sym h.1)
         ]
 
-    rest_positive : s.rest ≡ 0 → ⊥
+    rest_positive : s.left ≡ 0 → ⊥
     rest_positive e = absurd (omega (arith, s.degree.at_least, pow_pos s.place))
 
     still_taken : (t : ℕ) → (slice_index old t ≡ 0 → ⊥) → slice_index new t ≡ 0 → ⊥
@@ -129,12 +129,12 @@ module _ (map : ℕ → ℕ) (additive : (a b : ℕ) → map (bit_xor a b) ≡ b
         ]
 
     -- the image of a number from 2^i on: the rest and the image of a number below 2^i
-    image_split : (a : ℕ) → a < 2 ^ suc i → 2 ^ i ≤ a → (b : ℕ) × (b < 2 ^ i) × (map a ≡ bit_xor (map b) s.rest)
+    image_split : (a : ℕ) → a < 2 ^ suc i → 2 ^ i ≤ a → (b : ℕ) × (b < 2 ^ i) × (map a ≡ bit_xor (map b) s.left)
     image_split a below least =
         let w = rest_origin old new i c s in (
           bit_xor a w.0,
           lowered i a w.0 below least w.1,
-          sym (ap (λ x. bit_xor x s.rest) (additive a w.0 ∙ ap (bit_xor (map a)) w.2) ∙ xor_undo (map a) s.rest),
+          sym (ap (λ x. bit_xor x s.left) (additive a w.0 ∙ ap (bit_xor (map a)) w.2) ∙ xor_undo (map a) s.left),
         )
 
     more_tops : (a t : ℕ) → a < 2 ^ suc i → HasDegree (map a) t → slice_index new t ≡ 0 → ⊥
@@ -143,22 +143,22 @@ module _ (map : ℕ → ℕ) (additive : (a b : ℕ) → map (bit_xor a b) ≡ b
           | inl small ↦ still_taken t (c.tops a t small degree)
           | inr big ↦
               let b = image_split a below big in
-              let split : HasDegree (bit_xor (map b.0) s.rest) t = subst (λ x. HasDegree x t) b.2 degree in
+              let split : HasDegree (bit_xor (map b.0) s.left) t = subst (λ x. HasDegree x t) b.2 degree in
               elim (cases_lt 0 (map b.0)) [
                 | inl positive ↦
                     let d = degree_of (map b.0) positive in
                     elim (cases_order d.0 s.place) [
                       | inl e ↦ λ free. c.tops b.0 d.0 b.1 d.1 (ap (slice_index old) e ∙ s.free)
                       | inr different ↦ elim different [
-                        | inl less ↦ place_taken t (degree_unique (bit_xor (map b.0) s.rest) t s.place split (sum_low (map b.0) s.rest d.0 s.place d.1 s.degree less))
+                        | inl less ↦ place_taken t (degree_unique (bit_xor (map b.0) s.left) t s.place split (sum_low (map b.0) s.left d.0 s.place d.1 s.degree less))
                         | inr more_than ↦
-                            let e : t ≡ d.0 = degree_unique (bit_xor (map b.0) s.rest) t d.0 split (sum_high (map b.0) s.rest d.0 s.place d.1 s.degree more_than) in
+                            let e : t ≡ d.0 = degree_unique (bit_xor (map b.0) s.left) t d.0 split (sum_high (map b.0) s.left d.0 s.place d.1 s.degree more_than) in
                             still_taken t (c.tops b.0 t b.1 (subst (HasDegree (map b.0)) (sym e) d.1))
                       ]
                     ]
                 | inr zero_or_less ↦
                     let is : map b.0 ≡ 0 = omega arith in
-                    place_taken t (degree_unique s.rest t s.place (subst (λ x. HasDegree (bit_xor x s.rest) t) is split) s.degree)
+                    place_taken t (degree_unique s.left t s.place (subst (λ x. HasDegree (bit_xor x s.left) t) is split) s.degree)
               ]
         ]
 
@@ -168,7 +168,7 @@ module _ (map : ℕ → ℕ) (additive : (a b : ℕ) → map (bit_xor a b) ≡ b
           | inl small ↦ c.kernel a small goes
           | inr big ↦
               let b = image_split a below big in
-              let is : map b.0 ≡ s.rest = same_from_xor_zero (map b.0) s.rest (sym b.2 ∙ goes) in
+              let is : map b.0 ≡ s.left = same_from_xor_zero (map b.0) s.left (sym b.2 ∙ goes) in
               absurd (c.tops b.0 s.place b.1 (subst (λ x. HasDegree x s.place) (sym is) s.degree) s.free)
         ]
 

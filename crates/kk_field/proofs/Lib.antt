@@ -9,3 +9,4 @@ pub mod RangeProducts
 pub mod Powers
 pub mod Elimination
 pub mod Criterion
+pub mod Examples

@@ -1,4 +1,4 @@
--- Numbers with different highest bits, as a basis of their sums.
+-- Numbers with different highest bits, as a basis of their sums: used only inside the irreducibility test.
 use Rattle.std.specs.Prelude.{◌≡◌, ◌≢◌, ℕ, ◌<◌, List, length, slice_index, slice_set, bit_xor}
 use Rattle.kk_field.specs.Polynomial.{HasDegree}
 
@@ -14,9 +14,9 @@ pub data InSpan (pivots : List ℕ) : ℕ → Type 0 where
 -- entry `place` was 0, and is now v up to a sum of the old entries
 pub record Inserts (old new : List ℕ) (v : ℕ) : Type 0 where
   pub place : ℕ
-  pub rest : ℕ
+  pub left : ℕ
   pub within : place < length old
   pub free : slice_index old place ≡ 0
-  pub degree : HasDegree rest place
-  pub set : new ≡ slice_set old place rest
-  pub in_span : InSpan old (bit_xor v rest)
+  pub degree : HasDegree left place
+  pub set : new ≡ slice_set old place left
+  pub in_span : InSpan old (bit_xor v left)

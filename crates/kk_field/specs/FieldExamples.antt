@@ -11,7 +11,7 @@ pub powers_from : ℕ → ℕ → List ℕ
 powers_from a zero = []
 powers_from a (suc n) = a ∷ powers_from (field_product gf8 2 a) n
 
--- the powers of X, which run through all elements but 0
+-- the powers of X, which run through all elements except 0
 pub powers_of_two : powers_from 1 7 ≡ 1 ∷ 2 ∷ 4 ∷ 3 ∷ 6 ∷ 7 ∷ 5 ∷ []
 unfolding powers_from field_product product product_below remainder remainder_below
 powers_of_two = refl
@@ -33,3 +33,12 @@ a_square = refl
 pub two_factors : product 7 6 ≡ 18
 unfolding product product_below
 two_factors = refl
+
+-- X^4 + X^2 + 1 is (X^3 + X + 1)·X, and X + 1 is left: proofs/Examples.antt has it as `IsRemainder`
+pub three_is_left : remainder 3 11 21 ≡ 3
+unfolding remainder remainder_below
+three_is_left = refl
+
+pub times_x : product 11 2 ≡ 22
+unfolding product product_below
+times_x = refl

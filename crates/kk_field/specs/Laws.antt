@@ -56,7 +56,7 @@ pub record IsInverse (f : Modulus) (a b : ℕ) : Type 0 where
   pub residue : IsResidue f b
   pub product_is_one : field_product f a b ≡ 1
 
--- each residue but 0 has an inverse, and only one
+-- each residue except 0 has an inverse, and only one
 abbrev pub OneInverse : Type 0
 OneInverse =
     (f : Modulus) → IsFieldModulus f → (a : ℕ) → IsResidue f a → 0 < a
@@ -71,7 +71,7 @@ FrobeniusIsInjective =
 abbrev pub FrobeniusOfDegree : Type 0
 FrobeniusOfDegree = (f : Modulus) → IsFieldModulus f → (a : ℕ) → IsResidue f a → frobenius f f.degree a ≡ a
 
--- a^(2^m - 1) is 1 for each residue but 0
+-- a^(2^m - 1) is 1 for each residue except 0
 abbrev pub PowerOfOrder : Type 0
 PowerOfOrder = (f : Modulus) → IsFieldModulus f → (a : ℕ) → IsResidue f a → 0 < a → power f a (2 ^ f.degree - 1) ≡ 1
 

@@ -31,6 +31,7 @@ unfoldable pub remainder_below : ℕ → ℕ → ℕ → ℕ → ℕ
 remainder_below m p a zero = a
 remainder_below m p a (suc n) = remainder_below m p (bit_xor a (bit_at a (m + n) * (p * 2 ^ n))) n
 
--- The remainder of a by p, of degree m. A number a has no 1 from place a on.
+-- The remainder of a by p, of degree m: the only r with `IsRemainder m p a r` (`laws::remainder_is_unique`). A number a has
+-- no 1 from place a on.
 unfoldable pub remainder : ℕ → ℕ → ℕ → ℕ
 remainder m p a = remainder_below m p a a

@@ -1,9 +1,12 @@
+//! The elimination of the irreducibility test.
 ghost use Rattle.std.specs.Prelude.{◌≡◌, ℕ, slice_index, replicate, bit_xor};
 ghost use Rattle.std.specs.Bool.{OnTrue, OnFalse};
 ghost use Rattle.kk_field.specs.Polynomial.{HasDegree};
 ghost use Rattle.kk_field.specs.Echelon.{IsEchelon, InSpan, Inserts};
 
 /// A basis of numbers under exclusive or: entry t is 0, or a number whose highest bit is bit t.
+///
+/// It is used only inside the irreducibility test, and no public contract names it.
 #[derive(Drop)]
 pub(crate) struct Echelon {
     pivots: [u64; 64],
@@ -23,14 +26,14 @@ impl Echelon {
         ensures sum { InSpan self.now.pivots (bit_xor v result) }
         ensures free { (t : ℕ) → HasDegree result t → slice_index self.now.pivots t ≡ 0 }
     {
-        let mut rest = v;
-        while rest != 0 {
-            let top = rest.ilog2() as usize;
+        let mut left = v;
+        while left != 0 {
+            let top = left.ilog2() as usize;
             let pivot = self.pivots[top];
             if pivot == 0 {
-                return rest;
+                return left;
             }
-            rest ^= pivot;
+            left ^= pivot;
         }
         0
     }
@@ -41,12 +44,12 @@ impl Echelon {
         ensures sum { OnFalse result (InSpan self.old.pivots v) }
         ensures same { OnFalse result (self.new ≡ self.old) }
     {
-        let rest = self.reduced(v);
-        if rest == 0 {
+        let left = self.reduced(v);
+        if left == 0 {
             return false;
         }
-        let top = rest.ilog2() as usize;
-        self.pivots[top] = rest;
+        let top = left.ilog2() as usize;
+        self.pivots[top] = left;
         true
     }
 }

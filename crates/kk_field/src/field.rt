@@ -1,3 +1,4 @@
+//! The field of the residues modulo an irreducible polynomial.
 ghost use Rattle.std.specs.Prelude.{◌≡◌, ◌+◌, ◌*◌, ◌^◌, ◌<◌, ◌≤◌, ◌↔◌, IsNone, IfSome};
 ghost use Rattle.kk_field.specs.Polynomial.{IsIrreducible};
 ghost use Rattle.kk_field.specs.Field.{polynomial, frobenius};
@@ -11,23 +12,21 @@ use std::sync::ledger::Ledger;
 /// The field GF(2^m), for m from 1 to 64: a `Ring` whose modulus is irreducible.
 #[derive(Clone, Copy)]
 pub struct Field {
-    m: u32,
-    low: u64,
+    ring: Ring,
 }
 
 // Clauses see the modulus.
 impl Model for Field {
-    ghost use Rattle.std.specs.Prelude.{◌≤◌};
     ghost use Rattle.kk_field.specs.Field.{Modulus};
     ghost use Rattle.kk_field.specs.Laws.{IsFieldModulus};
 
     ghost Value = { Modulus };
 
-    ghost view = { λ a. record { degree = a.m; low = a.low } };
+    ghost view = { λ a. a.ring };
 
-    ghost invariant = { λ a. (a.m ≤ 64) × IsFieldModulus (record { degree = a.m; low = a.low }) };
+    ghost invariant = { λ a. IsFieldModulus a.ring };
 
-    ghost inverse = { λ f. record { m = f.degree; low = f.low } };
+    ghost inverse = { λ f. record { ring = f } };
 }
 
 impl Field {
@@ -36,9 +35,9 @@ impl Field {
         requires { IsIrreducible (polynomial ring) }
         ensures { result ≡ ring }
     {
+        // Made anew, from a degree and a low part that tell their ranges.
         Field {
-            m: ring.m(),
-            low: ring.low(),
+            ring: Ring::new(ring.m(), ring.low()),
         }
     }
 
@@ -47,7 +46,17 @@ impl Field {
         ensures value { result ≡ self.now }
         ensures irreducible { IsFieldModulus result }
     {
-        Ring::new(self.m, self.low)
+        self.ring
+    }
+
+    /// The one of the field.
+    pub fn one(&self) -> u64
+        ensures value { result ≡ 1 }
+        ensures below { result < 2 ^ self.now.degree }
+        ensures irreducible { IsFieldModulus self.now }
+    {
+        let _ = &self.ring;
+        1
     }
 
     /// The inverse of `a`, its power a^(2^m - 2), or `None` at 0.

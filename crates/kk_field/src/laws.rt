@@ -1,6 +1,6 @@
 //! Laws of the definitions in `specs/`, each the contract of a function that does nothing.
 //!
-//! A proof in another crate cites such a law by the function's contract, or the lemmas behind it.
+//! A proof in another crate cites such a law by the function's contract, or the lemmas of its proof.
 ghost use Rattle.kk_field.specs.Laws.{
   RemainderIsUnique,
   ResiduesAreARing,
@@ -45,7 +45,7 @@ pub fn no_zero_divisors()
     ensures { NoZeroDivisors }
 {}
 
-/// Modulo an irreducible polynomial each residue but 0 has one inverse.
+/// Modulo an irreducible polynomial each residue except 0 has one inverse.
 pub fn one_inverse()
     ensures { OneInverse }
 {}
@@ -60,7 +60,7 @@ pub fn frobenius_of_degree()
     ensures { FrobeniusOfDegree }
 {}
 
-/// Fermat's theorem: modulo an irreducible polynomial of degree m, a^(2^m - 1) is 1 for each a but 0.
+/// Fermat's theorem: modulo an irreducible polynomial of degree m, a^(2^m - 1) is 1 for each a except 0.
 pub fn power_of_order()
     ensures { PowerOfOrder }
 {}

@@ -1,3 +1,4 @@
+//! The ring of residues modulo X^m + low, and the test whether it is a field.
 ghost use Rattle.std.specs.Prelude.{◌≡◌, ◌+◌, ◌^◌, ◌<◌, ◌≤◌, ◌↔◌, IsTrue};
 ghost use Rattle.kk_field.specs.Polynomial.{IsIrreducible};
 ghost use Rattle.kk_field.specs.Field.{polynomial, field_product, frobenius};
@@ -145,7 +146,7 @@ impl Ring {
 
     /// Whether 0 and 1 are the only residues a with a·a = a.
     ///
-    /// They are where the images of X, X^2, .., X^(m - 1) under the linear map from a to a·a + a are independent,
+    /// This holds exactly where the images of X, X^2, .., X^(m - 1) under the linear map from a to a·a + a are independent,
     /// since 1 goes to 0.
     fn only_trivial_idempotents(&self) -> bool
         ensures { IsTrue result ↔ OnlyTrivialIdempotents self.now }
@@ -162,7 +163,7 @@ impl Ring {
 
     /// Whether the polynomial of the modulus is irreducible, so that the residues are the field GF(2^m).
     ///
-    /// It is where X^(2^m) is X, which rules out a square factor, and 0 and 1 are the only residues with a·a = a,
+    /// It is exactly where X^(2^m) is X, which rules out a square factor, and 0 and 1 are the only residues with a·a = a,
     /// which rules out two factors with no common factor. That factors show in these residues is from E. R. Berlekamp,
     /// "Factoring polynomials over finite fields", 1967.
     pub fn is_irreducible(&self) -> bool

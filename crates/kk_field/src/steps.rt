@@ -1,3 +1,4 @@
+//! The count of multiplications that contracts see.
 ghost use Rattle.std.specs.Prelude.{◌≡◌, ◌+◌, ◌<◌};
 
 use std::marker::Model;

@@ -7,7 +7,7 @@ use crate::steps::Steps;
 use std::marker::Brand;
 use std::sync::ledger::{Blank, Ledger};
 
-// X^3 to X^7 modulo X^3 + X + 1.
+/// X^3 to X^7 modulo X^3 + X + 1.
 fn powers_of_x<L: Ledger>(blank: Blank) -> [u64; 5]
     requires name { blank.name ≡ L.name }
     requires parts { blank.parts ≡ L.parts }
@@ -27,7 +27,7 @@ fn powers_of_x_run_through_gf8(rt: HostRuntime) {
     assert_eq!(rt; powers_of_x::<Brand>(Blank::new(1)), [3, 6, 7, 5, 1]);
 }
 
-// X^64 and X^128 modulo X^64 + X^4 + X^3 + X + 1, and 1 modulo X + 1.
+/// X^64 and X^128 modulo X^64 + X^4 + X^3 + X + 1, and 1 modulo X + 1.
 fn squares<L: Ledger>(blank: Blank) -> (u64, u64, u64)
     requires name { blank.name ≡ L.name }
     requires parts { blank.parts ≡ L.parts }
@@ -50,7 +50,7 @@ fn squares_at_both_ends_of_the_degrees(rt: HostRuntime) {
     assert_eq!(rt; (wide.m(), wide.low()), (64, 0x1b));
 }
 
-// The inverses of 5 and 0, and the square root of 5.
+/// The inverses of 5 and 0 and the square root of 5 in GF(8), or `None` if X^3 + X + 1 had factors.
 fn gf8<L: Ledger>(blank: Blank) -> Option<(Option<u64>, Option<u64>, u64)>
     requires name { blank.name ≡ L.name }
     requires parts { blank.parts ≡ L.parts }
@@ -75,7 +75,9 @@ fn inverses_and_a_root_in_gf8(rt: HostRuntime) {
 #[test]
 fn irreducible_polynomials(rt: HostRuntime) {
     assert!(rt; Ring::new(1, 0).is_irreducible());
-    assert!(rt; Ring::new(1, 1).is_irreducible());
+    let ring = Ring::new(1, 1);
+    assert!(rt; ring.is_irreducible());
+    assert_eq!(rt; Field::of(ring).one(), 1);
     assert!(rt; Ring::new(2, 3).is_irreducible());
     assert!(rt; Ring::new(3, 3).is_irreducible());
     assert!(rt; Ring::new(4, 3).is_irreducible());
