@@ -1,0 +1,154 @@
+-- Additive maps of numbers, by the bytes of their argument.
+use Rattle.std.proofs.Common.{◌≡◌, ℕ, suc, ◌+◌, ◌-◌, ◌*◌, ◌/◌, ◌%◌, ◌^◌, ◌<◌, ◌≤◌, bit_xor, slice_index, sym, ap, ◌∙◌, arith}
+use Rattle.std.proofs.Math.Nat.{mod-lt, mul_assoc, mul_comm, one-mul, add_comm, div-div-eq-div-mul}
+use Rattle.std.proofs.Math.Pow.{pow_pos, pow_mono, shr_lt}
+use Rattle.std.proofs.lemmas.Nat.{pow-add}
+use Rattle.std.specs.Int.Bits.{xor_comm, xor_assoc}
+use Rattle.kk_field.proofs.Sums.{sums, xor_shl, by_digits}
+use Rattle.kk_field.proofs.Remainders.{HasDegree-modulus, xor-modulus, remainder_by, remainder-product_left}
+use Rattle.kk_field.proofs.Residues.{one_small, residue-below, residue-small, residue-xor, square-xor_residues, field_product-one}
+use Rattle.kk_field.proofs.Products.{product-pow, product-one, product-double, double-product}
+use Rattle.kk_field.specs.Polynomial.{product}
+use Rattle.kk_field.specs.Field.{Modulus, polynomial, residue, field_product}
+use Rattle.kk_rows.specs.AdditiveMap.{IsAdditive}
+use Rattle.kk_tables.specs.Tables.{IsTableOf, DoublesBy, byte_at, reduction, squared}
+use Rattle.kk_tables.proofs.WindowProducts.{by_places, product-lt}
+
+double_square : (x : ℕ) → product (x * 2) (x * 2) ≡ product x x * 4
+double_square x =
+    double-product x (x * 2) ∙ ap (λ y. y * 2) (product-double x x) ∙ mul_assoc (product x x) 2 2
+
+-- the lowest byte of rest apart
+pub byte_apart : (image : ℕ → ℕ) → IsAdditive image → (rest s : ℕ)
+    → image (rest * 2 ^ s) ≡ bit_xor (image (rest % 256 * 2 ^ s)) (image (rest / 256 * 2 ^ (s + 8)))
+byte_apart image additive rest s =
+    let split : rest * 2 ^ s ≡ bit_xor (rest / 2 ^ 8 * 2 ^ 8 * 2 ^ s) (rest % 2 ^ 8 * 2 ^ s) =
+    ap (λ x. x * 2 ^ s) (sym (by_places rest 8)) ∙ xor_shl (rest / 2 ^ 8 * 2 ^ 8) (rest % 2 ^ 8) s in
+    let power : 2 ^ 8 * 2 ^ s ≡ 2 ^ (s + 8) = sym (ap (λ n. 2 ^ n) (add_comm s 8) ∙ pow-add 2 8 s) in
+    let up : rest / 2 ^ 8 * 2 ^ 8 * 2 ^ s ≡ rest / 2 ^ 8 * 2 ^ (s + 8) = mul_assoc (rest / 2 ^ 8) (2 ^ 8) (2 ^ s) ∙ ap (λ n. rest / 2 ^ 8 * n) power in
+    ap image (split ∙ ap (λ x. bit_xor x (rest % 2 ^ 8 * 2 ^ s)) up ∙ xor_comm (rest / 2 ^ 8 * 2 ^ (s + 8)) (rest % 2 ^ 8 * 2 ^ s))
+    ∙ additive (rest % 2 ^ 8 * 2 ^ s) (rest / 2 ^ 8 * 2 ^ (s + 8))
+
+pub byte_down : (high i : ℕ) → high / 2 ^ (8 * i) / 256 ≡ high / 2 ^ (8 * (i + 1))
+byte_down high i =
+    let e : 8 * (i + 1) ≡ 8 * i + 8 = omega arith in
+    div-div-eq-div-mul high (2 ^ (8 * i)) (2 ^ 8) ∙ ap (λ n. high / n) (sym (pow-add 2 (8 * i) 8)) ∙ ap (λ n. high / 2 ^ n) (sym e)
+
+-- the entry of a byte
+pub byte_at-entry : (i v : ℕ) → v < 256 → byte_at (256 * i + v) ≡ v * 2 ^ (8 * i)
+byte_at-entry i v h =
+    let low : (256 * i + v) % 256 ≡ v = omega (arith, h) in
+    let high : (256 * i + v) / 256 ≡ i = omega (arith, h) in
+    ap (λ x. x * 2 ^ (8 * ((256 * i + v) / 256))) low ∙ ap (λ x. v * 2 ^ (8 * x)) high
+
+-- what a round of a look-up keeps
+pub look_up_next : (image : ℕ → ℕ) (table : _) → IsAdditive image → IsTableOf image table → (x sum rest i : ℕ) → i < 8
+    → image x ≡ bit_xor sum (image (rest * 2 ^ (8 * i)))
+    → image x ≡ bit_xor (bit_xor sum (slice_index table (256 * i + rest % 256))) (image (rest / 256 * 2 ^ (8 * (i + 1))))
+look_up_next image table additive t x sum rest i hi e =
+    let small : rest % 256 < 256 = mod-lt rest (omega arith) in
+    let within : 256 * i + rest % 256 < 2048 = omega (arith, hi, small) in
+    let entry : slice_index table (256 * i + rest % 256) ≡ image (rest % 256 * 2 ^ (8 * i)) =
+    t.entries (256 * i + rest % 256) within ∙ ap image (byte_at-entry i (rest % 256) small) in
+    let next : 8 * i + 8 ≡ 8 * (i + 1) = omega arith in
+    e ∙ ap (bit_xor sum) (byte_apart image additive rest (8 * i))
+    ∙ sym (xor_assoc sum (image (rest % 256 * 2 ^ (8 * i))) (image (rest / 256 * 2 ^ (8 * i + 8))))
+    ∙ ap (λ y. bit_xor (bit_xor sum y) (image (rest / 256 * 2 ^ (8 * i + 8)))) (sym entry)
+    ∙ ap (λ n. bit_xor (bit_xor sum (slice_index table (256 * i + rest % 256))) (image (rest / 256 * 2 ^ n))) next
+
+-- ---- making a table
+
+pub residue_shift : (f : Modulus) → f.low < 2 ^ f.degree → (y k : ℕ) → residue f (residue f y * 2 ^ k) ≡ residue f (y * 2 ^ k)
+residue_shift f h y k =
+    ap (residue f) (sym (product-pow (residue f y) k))
+    ∙ remainder-product_left f.degree (polynomial f) (HasDegree-modulus f.degree f.low h) y (2 ^ k)
+    ∙ ap (residue f) (product-pow y k)
+
+-- an entry of the same byte
+in_byte : (n w : ℕ) → w < 256 → byte_at (n - n % 256 + w) ≡ w * 2 ^ (8 * (n / 256))
+in_byte n w h =
+    let e : n - n % 256 + w ≡ 256 * (n / 256) + w = omega arith in
+    ap byte_at e ∙ byte_at-entry (n / 256) w h
+
+times_two : (w p : ℕ) → w * p * 2 ≡ w * 2 * p
+times_two w p = mul_assoc w p 2 ∙ ap (λ x. w * x) (mul_comm p 2) ∙ sym (mul_assoc w 2 p)
+
+half_byte : (n : ℕ) → byte_at (n - n % 256 + n % 256 / 2) * 2 ≡ n % 256 / 2 * 2 * 2 ^ (8 * (n / 256))
+half_byte n =
+    let small : n % 256 / 2 < 256 = omega arith in
+    ap (λ x. x * 2) (in_byte n (n % 256 / 2) small) ∙ times_two (n % 256 / 2) (2 ^ (8 * (n / 256)))
+
+pub byte_at-even : (n : ℕ) → n % 256 % 2 ≡ 0 → byte_at (n - n % 256 + n % 256 / 2) * 2 ≡ byte_at n
+byte_at-even n even =
+    let twice : n % 256 / 2 * 2 ≡ n % 256 = omega (arith, even) in
+    half_byte n ∙ ap (λ x. x * 2 ^ (8 * (n / 256))) twice
+
+pub byte_at-odd : (n : ℕ) → n % 256 % 2 ≡ 1 → bit_xor (byte_at (n - n % 256 + n % 256 / 2) * 2) (byte_at (n - n % 256 + 1)) ≡ byte_at n
+byte_at-odd n odd =
+    let s = 8 * (n / 256) in
+    ap (λ x. bit_xor x (byte_at (n - n % 256 + 1))) (half_byte n)
+    ∙ ap (bit_xor (n % 256 / 2 * 2 * 2 ^ s)) (in_byte n 1 (omega arith))
+    ∙ sym (xor_shl (n % 256 / 2 * 2) 1 s)
+    ∙ ap (λ d. bit_xor (n % 256 / 2 * 2) d * 2 ^ s) (sym odd)
+    ∙ ap (λ x. x * 2 ^ s) (by_digits (n % 256))
+
+pub byte_at-next : (n : ℕ) → 129 ≤ n → n % 256 ≡ 1 → byte_at (n - 129) * 2 ≡ byte_at n
+byte_at-next n more one =
+    let i = n / 256 - 1 in
+    let place : n - 129 ≡ 256 * i + 128 = omega (arith, more, one) in
+    let up : 8 * i + 8 ≡ 8 * (n / 256) = omega (arith, more, one) in
+    ap (λ k. byte_at k * 2) place ∙ ap (λ x. x * 2) (byte_at-entry i 128 (omega arith))
+    ∙ times_two 128 (2 ^ (8 * i)) ∙ mul_comm 256 (2 ^ (8 * i)) ∙ sym (pow-add 2 (8 * i) 8) ∙ ap (λ n. 2 ^ n) up
+    ∙ sym (one-mul (2 ^ (8 * (n / 256)))) ∙ ap (λ w. w * 2 ^ (8 * (n / 256))) (sym one)
+
+-- ---- the two maps
+
+pub IsAdditive-reduction : (f : Modulus) → f.low < 2 ^ f.degree → IsAdditive (reduction f)
+IsAdditive-reduction f h x y = ap (residue f) (xor_shl x y f.degree) ∙ residue-xor f h (x * 2 ^ f.degree) (y * 2 ^ f.degree)
+
+pub IsAdditive-squared : (f : Modulus) → f.low < 2 ^ f.degree → IsAdditive (squared f)
+IsAdditive-squared f h x y = square-xor_residues f h x y
+
+pub DoublesBy-reduction : (f : Modulus) → f.low < 2 ^ f.degree → DoublesBy f 1 (reduction f)
+DoublesBy-reduction f h x = sym (residue_shift f h (x * 2 ^ f.degree) 1 ∙ ap (residue f) (times_two x (2 ^ f.degree)))
+
+pub DoublesBy-squared : (f : Modulus) → f.low < 2 ^ f.degree → DoublesBy f 2 (squared f)
+unfolding field_product
+DoublesBy-squared f h x =
+    sym (residue_shift f h (product x x) 2 ∙ ap (residue f) (sym (double_square x)))
+
+-- X^m is low up to the modulus
+pub reduction-one : (f : Modulus) → f.low < 2 ^ f.degree → reduction f 1 ≡ f.low
+reduction-one f h =
+    let m = f.degree in
+    remainder_by m (polynomial f) (HasDegree-modulus m f.low h) (1 * 2 ^ m) f.low 1 h
+    (one-mul (2 ^ m) ∙ sym (rw (product-one (polynomial f), ← xor-modulus m f.low h) (simp sums)))
+
+pub squared-one : (f : Modulus) → f.low < 2 ^ f.degree → 1 ≤ f.degree → squared f 1 ≡ 1
+squared-one f h least = field_product-one f h 1 (one_small f.degree least)
+
+-- ---- the two parts of a product
+
+pub low_and_high : (f : Modulus) → f.low < 2 ^ f.degree → (p : ℕ)
+    → bit_xor (p % 2 ^ f.degree) (reduction f (p / 2 ^ f.degree)) ≡ residue f p
+low_and_high f h p =
+    let m = f.degree in
+    sym (ap (residue f) (sym (by_places p m))
+    ∙ residue-xor f h (p / 2 ^ m * 2 ^ m) (p % 2 ^ m)
+    ∙ ap (bit_xor (residue f (p / 2 ^ m * 2 ^ m))) (residue-small f h (p % 2 ^ m) (mod-lt p (pow_pos m)))
+    ∙ xor_comm (residue f (p / 2 ^ m * 2 ^ m)) (p % 2 ^ m))
+
+pub product-high : (a b m n : ℕ) → 1 ≤ m → m ≤ n → a < 2 ^ m → b < 2 ^ m → product a b / 2 ^ m < 2 ^ n
+product-high a b m n least most ha hb =
+    let e : suc (m - 1) ≡ m = omega arith in
+    let whole : product a b < 2 ^ (m + (m - 1)) = product-lt m a b (m - 1) ha (rw e hb) in
+    let le : m + (m - 1) ≤ n + m = omega arith in
+    let powers : 2 ^ (m + (m - 1)) ≤ 2 ^ (n + m) = pow_mono le in
+    shr_lt n m (omega (arith, whole, powers))
+
+pub two_parts : (f : Modulus) → f.low < 2 ^ f.degree → (a b p r : ℕ) → p ≡ product a b → r ≡ reduction f (p / 2 ^ f.degree)
+    → (bit_xor (p % 2 ^ f.degree) r ≡ field_product f a b) × (bit_xor (p % 2 ^ f.degree) r < 2 ^ f.degree)
+unfolding field_product
+two_parts f h a b p r ep er =
+    let whole : bit_xor (p % 2 ^ f.degree) r ≡ residue f p = ap (bit_xor (p % 2 ^ f.degree)) er ∙ low_and_high f h p in
+    (whole ∙ ap (residue f) ep, rw whole (residue-below f h p))

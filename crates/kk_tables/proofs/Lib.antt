@@ -1,0 +1,3 @@
+pub mod WindowProducts
+pub mod ByteImages
+pub mod Chains

@@ -1,0 +1,29 @@
+-- Tables of an additive map by the bytes of its argument.
+use Rattle.std.specs.Prelude.{◌≡◌, ℕ, ◌*◌, ◌/◌, ◌%◌, ◌^◌, ◌<◌, List, length, slice_index}
+use Rattle.kk_field.specs.Field.{Modulus, residue, field_product}
+use Rattle.kk_tables.specs.declared.bytes.TheConstants.{ENTRIES}
+
+-- the number whose byte n / 256 is n % 256, and whose other bytes are 0
+abbrev pub byte_at : ℕ → ℕ
+byte_at n = n % 256 * 2 ^ (8 * (n / 256))
+
+-- the first n entries are the images of single bytes
+pub record IsTableUpTo (image : ℕ → ℕ) (n : ℕ) (table : List ℕ) : Type 0 where
+  pub long : length table ≡ ENTRIES
+  pub entries : (k : ℕ) → k < n → slice_index table k ≡ image (byte_at k)
+
+-- entry 256·i + v is the image of v·2^(8·i)
+abbrev pub IsTableOf : (ℕ → ℕ) → List ℕ → Type 0
+IsTableOf image table = IsTableUpTo image ENTRIES table
+
+-- the image of twice a number is X^times times its image, as residues
+abbrev pub DoublesBy : Modulus → ℕ → (ℕ → ℕ) → Type 0
+DoublesBy f times image = (x : ℕ) → image (x * 2) ≡ residue f (image x * 2 ^ times)
+
+-- the remainder of `high` times X^m by the modulus
+abbrev pub reduction : Modulus → ℕ → ℕ
+reduction f high = residue f (high * 2 ^ f.degree)
+
+-- the square of a residue
+abbrev pub squared : Modulus → ℕ → ℕ
+squared f a = field_product f a a

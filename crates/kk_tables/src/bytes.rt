@@ -1,0 +1,104 @@
+//! Tables of an additive map by the bytes of its argument.
+ghost use Rattle.std.specs.Prelude.{◌≡◌, ℕ, ◌*◌, ◌^◌, ◌<◌, ◌≤◌, length, slice_index};
+ghost use Rattle.kk_field.specs.Field.{residue};
+ghost use Rattle.kk_field.specs.Laws.{IsModulus};
+ghost use Rattle.kk_rows.specs.AdditiveMap.{IsAdditive};
+ghost use Rattle.kk_tables.specs.Tables.{IsTableOf, IsTableUpTo, DoublesBy, byte_at};
+ghost use Rattle.kk_tables.specs.declared.bytes.TheConstants.{ENTRIES};
+
+use kk_field::Ring;
+
+/// How many entries a table has: one for each value of each of 8 bytes.
+pub(crate) const ENTRIES: usize = 8 * 256;
+
+/// The image of `x`, which has at most `bytes` bytes, under the additive map of the table: the sum of the images of its
+/// bytes.
+#[inline(always)]
+pub(crate) fn image_of(table: &[u64], x: u64, bytes: usize) -> u64
+    requires long { length table.now ≡ ENTRIES }
+    requires few { bytes ≤ 8 }
+    requires x_below { x < 2 ^ (8 * bytes) }
+    ensures { (image : ℕ → ℕ) → IsAdditive image → IsTableOf image table.now → result ≡ image x }
+{
+    let mut sum = 0;
+    let mut remaining = x;
+    for i in 0..bytes {
+        sum ^= table[256 * i + (remaining % 256) as usize];
+        remaining >>= 8;
+    }
+    sum
+}
+
+/// The product of a residue and X.
+fn doubled(ring: &Ring, a: u64) -> u64
+    requires { a < 2 ^ ring.now.degree }
+    ensures value { result ≡ residue ring.now (a * 2) }
+    ensures below { result < 2 ^ ring.now.degree }
+{
+    let low = ring.low();
+    let top = 1 << (ring.m() - 1);
+    if a < top {
+        a << 1
+    } else {
+        ((a - top) << 1) ^ low
+    }
+}
+
+/// The product of a residue and X^times.
+fn raised(ring: &Ring, a: u64, times: u32) -> u64
+    requires modulus { IsModulus ring.now }
+    requires a_below { a < 2 ^ ring.now.degree }
+    ensures value { result ≡ residue ring.now (a * 2 ^ times) }
+    ensures below { result < 2 ^ ring.now.degree }
+{
+    let mut power = a;
+    for _ in 0..times {
+        power = doubled(ring, power);
+    }
+    power
+}
+
+/// Entry n of [`make_table`]'s table, from those before it.
+///
+/// In each byte the image of 1 is X^times times that of the highest bit of the byte below, the image of an even value is
+/// X^times times that of its half, and the image of an odd value is that of the even one below it plus that of 1.
+fn entry(table: &[u64], ring: &Ring, one: u64, times: u32, n: usize) -> u64
+    requires modulus { IsModulus ring.now }
+    requires long { length table.now ≡ ENTRIES }
+    requires within { n < ENTRIES }
+    requires one_below { one < 2 ^ ring.now.degree }
+    requires before_below { (k : ℕ) → k < n → slice_index table.now k < 2 ^ ring.now.degree }
+    ensures value { (image : ℕ → ℕ) → IsAdditive image → DoublesBy ring.now times image → image 1 ≡ one
+        → IsTableUpTo image n table.now → result ≡ image (byte_at n) }
+    ensures below { result < 2 ^ ring.now.degree }
+{
+    let v = n % 256;
+    if v == 0 {
+        return 0;
+    }
+    if n == 1 {
+        return one;
+    }
+    if v == 1 {
+        return raised(ring, table[n - 129], times);
+    }
+    let even = raised(ring, table[n - v + v / 2], times);
+    if v % 2 == 0 {
+        return even;
+    }
+    even ^ table[n - v + 1]
+}
+
+/// Makes the table of the additive map that takes 1 to `one`, and twice a number to X^times times its image.
+pub(crate) fn make_table(table: &mut [u64], ring: &Ring, one: u64, times: u32)
+    requires modulus { IsModulus ring.now }
+    requires long { length table.old ≡ ENTRIES }
+    requires one_below { one < 2 ^ ring.now.degree }
+    ensures long { length table.new ≡ ENTRIES }
+    ensures value { (image : ℕ → ℕ) → IsAdditive image → DoublesBy ring.now times image → image 1 ≡ one
+        → IsTableOf image table.new }
+{
+    for n in 0..ENTRIES {
+        table[n] = entry(table, ring, one, times, n);
+    }
+}
