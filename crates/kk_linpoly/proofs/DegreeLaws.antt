@@ -9,7 +9,7 @@ use Rattle.kk_field.specs.Field.{Modulus, polynomial, field_product, frobenius}
 use Rattle.kk_field.proofs.Residues.{field_product-zero, zero-field_product, frobenius-zero, frobenius-below}
 use Rattle.kk_field.proofs.Fields.{no_zero_divisors_of_residues, frobenius_injective}
 use Rattle.kk_linpoly.specs.LinPoly.{SamePolynomial, IsOver, degree, degree_with_first, sum_of, scaled, composition, squared_up}
-pub use Rattle.kk_linpoly.specs.Laws.{Leads}
+pub use Rattle.kk_linpoly.specs.Laws.{Leads, NoDegreeIsZero}
 use Rattle.kk_linpoly.proofs.XorSums.{xor_sum-single}
 use Rattle.kk_linpoly.proofs.Coefficients.{coefficient-lt, slice_index-sum_of, slice_index-scaled, slice_index-squares, slice_index-composition, composed-past}
 
@@ -82,6 +82,12 @@ zeros_from_degree cs h =
       | inl w ↦ let some = degree-leads cs w.0 w.1 in cc
       | inr none ↦ none
     ]
+
+pub no_degree_is_zero : NoDegreeIsZero
+no_degree_is_zero cs = (
+  λ none. record { coefficients = zeros_from_degree cs none },
+  λ zero. degree-zeros cs zero.coefficients,
+)
 
 -- a degree is below the number of coefficients
 pub degree-lt_length : (cs : List ℕ) (e : ℕ) → Leads cs e → e < length cs

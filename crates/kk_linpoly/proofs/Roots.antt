@@ -11,8 +11,9 @@ use Rattle.kk_field.proofs.Sums.{sums, xor_xor_swap, same_from_xor_zero}
 use Rattle.kk_field.proofs.Residues.{field_product-below, field_product-zero, zero-field_product, field_product_comm, field_product_assoc, field_product-xor, xor-field_product, square-xor_residues, frobenius-xor, frobenius-field_product}
 use Rattle.kk_field.proofs.Fields.{no_zero_divisors_of_residues}
 use Rattle.kk_rows.specs.Span.{in_span, innovative_behind, IsIndependent}
-use Rattle.kk_rows.proofs.Sums.{xor_twice, xor_twice_left}
-use Rattle.kk_rows.proofs.Spans.{same_bool, in_span_skip, in_span_use, in_span_cases, in_span-nil, in_span-zero, in_span-lt}
+use Rattle.kk_rows.proofs.Sums.{xor_twice_left}
+use Rattle.kk_rows.proofs.Spans.{same_bool, in_span_skip, in_span_use, in_span_cases, in_span-zero, in_span-lt}
+use Rattle.kk_rows.proofs.AdditiveMaps.{in_span-map, in_span-of_map}
 use Rattle.kk_rows.proofs.Dimensions.{innovative_behind-nil, innovative_behind_inside, innovative_behind_outside, length_behind_le}
 use Rattle.kk_linpoly.specs.LinPoly.{SamePolynomial, IsOver, value_from, value, degree, sum_of, composition}
 use Rattle.kk_linpoly.proofs.Coefficients.{coefficient-lt, IsOver-from, IsOver-composition, IsOver-sum_of, slice_index-sum_of}
@@ -123,33 +124,6 @@ module _ (f : Modulus) (h : f.low < 2 ^ f.degree) where
       sym (xor_zero_r c) ∙ ap (bit_xor c) (sym (ap (λ x. field_product f x (frobenius f i p)) (none 0) ∙ zero-field_product f h (frobenius f i p))) ∙ left
   zeros_from_quotient p i (c ∷ cs) left none (suc k) = zeros_from_quotient p (suc i) cs (none 0) (λ j. none (suc j)) k
 
-  -- ---- spans of images
-
-  in_span-image : (p : ℕ) (rows : List ℕ) (v : ℕ) → in_span rows v ≡ true → in_span (map (image f p) rows) (image f p v) ≡ true
-  in_span-image p [] v inside =
-      let P : ℕ → Type 0 = λ x. in_span [] x ≡ true in
-      subst P (sym (ap (image f p) (in_span-nil v inside) ∙ image-zero p)) (in_span-zero [])
-  in_span-image p (r ∷ rows) v inside =
-      let P : ℕ → Type 0 = λ x. in_span (map (image f p) rows) x ≡ true in
-      elim (in_span_cases r rows v inside) [
-        | inl skipped ↦ in_span_skip (image f p r) (map (image f p) rows) (image f p v) (in_span-image p rows v skipped)
-        | inr used ↦ in_span_use (image f p r) (map (image f p) rows) (image f p v)
-            (subst P (image-xor p v r) (in_span-image p rows (bit_xor v r) used))
-      ]
-
-  in_span-of_images : (p : ℕ) (rows : List ℕ) (w : ℕ) → in_span (map (image f p) rows) w ≡ true → (v : ℕ) × (in_span rows v ≡ true) × (image f p v ≡ w)
-  in_span-of_images p [] w inside = (0, in_span-zero [], image-zero p ∙ sym (in_span-nil w inside))
-  in_span-of_images p (r ∷ rows) w inside =
-      let P : ℕ → Type 0 = λ x. in_span rows x ≡ true in
-      elim (in_span_cases (image f p r) (map (image f p) rows) w inside) [
-        | inl skipped ↦ let v = in_span-of_images p rows w skipped in (v.0, in_span_skip r rows v.0 v.1, v.2)
-        | inr used ↦ let v = in_span-of_images p rows (bit_xor w (image f p r)) used in (
-          bit_xor v.0 r,
-          in_span_use r rows (bit_xor v.0 r) (subst P (sym (xor_twice v.0 r)) v.1),
-          image-xor p v.0 r ∙ ap (λ x. bit_xor x (image f p r)) v.2 ∙ xor_twice w (image f p r),
-        )
-      ]
-
 module _ (f : Modulus) (h : f.low < 2 ^ f.degree) (irreducible : IsIrreducible (polynomial f)) where
   -- only 0 and p go to 0
   image_is_zero : (p x : ℕ) → p < 2 ^ f.degree → x < 2 ^ f.degree → image f p x ≡ 0 → (x ≡ 0) ⊎ (x ≡ p)
@@ -163,7 +137,7 @@ module _ (f : Modulus) (h : f.low < 2 ^ f.degree) (irreducible : IsIrreducible (
         | inr less ↦ inl (omega arith)
       ]
 
-  -- r is in the span of p and the rows just where its image is in that of theirs
+  -- r is in the span of p and the rows exactly where its image is in that of theirs
   in_span-images : (p : ℕ) (rows : List ℕ) (r : ℕ) → p < 2 ^ f.degree → All (λ x. x < 2 ^ f.degree) rows → r < 2 ^ f.degree
       → in_span (p ∷ rows) r ≡ in_span (map (image f p) rows) (image f p r)
   in_span-images p rows r p_below rows_below r_below =
@@ -171,11 +145,11 @@ module _ (f : Modulus) (h : f.low < 2 ^ f.degree) (irreducible : IsIrreducible (
       let Q : ℕ → Type 0 = λ x. in_span rows x ≡ true in
       same_bool _ _
       (λ inside. elim (in_span_cases p rows r inside) [
-        | inl skipped ↦ in_span-image f h p rows r skipped
-        | inr used ↦ subst P (image-xor f h p r p ∙ ap (bit_xor (image f p r)) (image-itself f h p) ∙ xor_zero_r (image f p r)) (in_span-image f h p rows (bit_xor r p) used)
+        | inl skipped ↦ in_span-map (image f p) (image-xor f h p) rows r skipped
+        | inr used ↦ subst P (image-xor f h p r p ∙ ap (bit_xor (image f p r)) (image-itself f h p) ∙ xor_zero_r (image f p r)) (in_span-map (image f p) (image-xor f h p) rows (bit_xor r p) used)
       ])
       (λ inside.
-      let v = in_span-of_images f h p rows (image f p r) inside in
+      let v = in_span-of_map (image f p) (image-xor f h p) rows (image f p r) inside in
       let v_below : v.0 < 2 ^ f.degree = in_span-lt f.degree rows rows_below v.0 v.1 in
       let none : image f p (bit_xor v.0 r) ≡ 0 = image-xor f h p v.0 r ∙ ap (λ x. bit_xor x (image f p r)) v.2 ∙ xor_self (image f p r) in
       elim (image_is_zero p (bit_xor v.0 r) p_below (xor_lt f.degree v.0 r v_below r_below) none) [
@@ -183,7 +157,7 @@ module _ (f : Modulus) (h : f.low < 2 ^ f.degree) (irreducible : IsIrreducible (
         | inr shifted ↦ in_span_use p rows r (subst Q (sym (ap (bit_xor r) (sym shifted ∙ xor_comm v.0 r) ∙ xor_twice_left r v.0)) v.1)
       ])
 
-  -- so as many rows are innovative behind p as images are
+  -- so as many rows are innovative after p as images are
   innovative_images : (p : ℕ) (before rows : List ℕ) → p < 2 ^ f.degree → All (λ x. x < 2 ^ f.degree) before → All (λ x. x < 2 ^ f.degree) rows
       → length (innovative_behind (p ∷ before) rows) ≡ length (innovative_behind (map (image f p) before) (map (image f p) rows))
   innovative_images p before [] p_below before_below rows_below =
@@ -258,8 +232,8 @@ module _ (f : Modulus) (h : f.low < 2 ^ f.degree) (irreducible : IsIrreducible (
       let R : ℕ → Type 0 = λ x. value f cs x ≡ 0 in
       let q = quotient f p 0 cs in
       let p_below = All-head P p points below in
-      let rest_below = All-tail P p points below in
-      let images = independent_images p points p_below rest_below independent in
+      let others_below = All-tail P p points below in
+      let images = independent_images p points p_below others_below independent in
       let left = nothing_left p cs p_below images.0 (IsOver-from f.degree cs over) (All-head R p points roots) in
       let count_images : length (map (image f p) points) ≡ n = omega (arith, length-map points (image f p)) in
       zeros_from_quotient f h p 0 cs left

@@ -11,9 +11,10 @@ use Rattle.kk_field.proofs.Residues.{field_product-zero, field_product-one}
 use Rattle.kk_rows.specs.Span.{in_span, IsIndependent}
 use Rattle.kk_rows.proofs.Spans.{in_span-least}
 use Rattle.kk_rows.proofs.Independence.{independent-push}
-use Rattle.kk_linpoly.specs.LinPoly.{IsOver, IsMonic, value, trimmed, with_first, degree, degree_with_first, sum_of, scaled, squared_up}
+use Rattle.kk_linpoly.specs.LinPoly.{IsOver, IsMonic, value, trimmed, with_first, degree, degree_with_first, sum_of, scaled, squared_up, raised}
 use Rattle.kk_linpoly.specs.Laws.{VanishesAt}
-use Rattle.kk_linpoly.proofs.Trimmed.{trimmed-same, slice_index-trimmed, length-trimmed_of_degree, All-trimmed}
+use Rattle.kk_linpoly.proofs.Stored.{SamePolynomial-sum_of}
+use Rattle.kk_linpoly.proofs.Trimmed.{SamePolynomial-trimmed, trimmed-same, slice_index-trimmed, length-trimmed_of_degree, All-trimmed}
 use Rattle.kk_linpoly.proofs.Coefficients.{slice_index-sum_of, slice_index-scaled, slice_index-squares, IsOver-sum_of, IsOver-scaled, IsOver-squared_up}
 use Rattle.kk_linpoly.proofs.Values.{value-sum_of, value-scaled, value-squared_up, value-trimmed, value-xor, value-zero}
 use Rattle.kk_linpoly.proofs.DegreeLaws.{degree-leads, leads_from_degree}
@@ -30,6 +31,13 @@ pub trimmed-one : trimmed (1 ∷ []) ≡ 1 ∷ []
 unfolding trimmed with_first
 trimmed-one = refl
 
+-- its parts may be without zeros at the end
+pub trimmed-raised : (f : Modulus) (d : ℕ) (cs : List ℕ) → trimmed (raised f d cs) ≡ trimmed (sum_of (trimmed (squared_up f cs)) (trimmed (scaled f d cs)))
+trimmed-raised f d cs =
+    sym (trimmed-same (sum_of (trimmed (squared_up f cs)) (trimmed (scaled f d cs))) (raised f d cs)
+    (SamePolynomial-sum_of (trimmed (squared_up f cs)) (squared_up f cs) (trimmed (scaled f d cs)) (scaled f d cs)
+    (SamePolynomial-trimmed (squared_up f cs)) (SamePolynomial-trimmed (scaled f d cs))))
+
 -- X is 0 at no points
 pub Vanishes-none : (f : Modulus) → 1 < 2 ^ f.degree → (points v : List ℕ) → v ≡ 1 ∷ [] → Vanishes f points 0 v
 unfolding degree degree_with_first
@@ -42,68 +50,65 @@ Vanishes-none f one points v e =
       zeros = All-nil (λ p. value f (1 ∷ []) p ≡ 0);
     })
 
--- the next polynomial
-next : Modulus → List ℕ → ℕ → List ℕ
-next f v at = sum_of (trimmed (squared_up f v)) (trimmed (scaled f at v))
+module _ (f : Modulus) (h : f.low < 2 ^ f.degree) where
+  -- the value of the square plus a multiple
+  pub value-raised : (v : List ℕ) (at x : ℕ)
+      → value f (raised f at v) x ≡ bit_xor (field_product f (value f v x) (value f v x)) (field_product f at (value f v x))
+  value-raised v at x =
+      value-sum_of f h (squared_up f v) (scaled f at v) x
+      ∙ ap (λ y. bit_xor y (value f (scaled f at v) x)) (value-squared_up f h v x)
+      ∙ ap (bit_xor (field_product f (value f v x) (value f v x))) (value-scaled f h at v x)
+
+  -- and its coefficients
+  pub slice_index-raised : (v : List ℕ) (at k : ℕ)
+      → slice_index (raised f at v) (suc k) ≡ bit_xor (field_product f (slice_index v k) (slice_index v k)) (field_product f at (slice_index v (suc k)))
+  slice_index-raised v at k =
+      slice_index-sum_of (squared_up f v) (scaled f at v) (suc k)
+      ∙ ap (λ y. bit_xor y (slice_index (scaled f at v) (suc k))) (slice_index-squares f h v k)
+      ∙ ap (bit_xor (field_product f (slice_index v k) (slice_index v k))) (slice_index-scaled f h at v (suc k))
+
+  pub IsOver-raised : (v : List ℕ) (at : ℕ) → IsOver f.degree (raised f at v)
+  IsOver-raised v at =
+      IsOver-sum_of f.degree (squared_up f v) (scaled f at v) (IsOver-squared_up f h v) (IsOver-scaled f h at v)
 
 module _ (f : Modulus) (h : f.low < 2 ^ f.degree) (one : 1 < 2 ^ f.degree) where
-  value-next : (v : List ℕ) (at x : ℕ)
-      → value f (next f v at) x ≡ bit_xor (field_product f (value f v x) (value f v x)) (field_product f at (value f v x))
-  unfolding next
-  value-next v at x =
-      value-sum_of f h (trimmed (squared_up f v)) (trimmed (scaled f at v)) x
-      ∙ ap (λ y. bit_xor y (value f (trimmed (scaled f at v)) x)) (value-trimmed f h (squared_up f v) x ∙ value-squared_up f h v x)
-      ∙ ap (bit_xor (field_product f (value f v x) (value f v x))) (value-trimmed f h (scaled f at v) x ∙ value-scaled f h at v x)
-
-  slice_index-next : (v : List ℕ) (at k : ℕ)
-      → slice_index (next f v at) (suc k) ≡ bit_xor (field_product f (slice_index v k) (slice_index v k)) (field_product f at (slice_index v (suc k)))
-  unfolding next
-  slice_index-next v at k =
-      slice_index-sum_of (trimmed (squared_up f v)) (trimmed (scaled f at v)) (suc k)
-      ∙ ap (λ y. bit_xor y (slice_index (trimmed (scaled f at v)) (suc k))) (slice_index-trimmed (squared_up f v) (suc k) ∙ slice_index-squares f h v k)
-      ∙ ap (bit_xor (field_product f (slice_index v k) (slice_index v k))) (slice_index-trimmed (scaled f at v) (suc k) ∙ slice_index-scaled f h at v (suc k))
-
-  next_leading : (v : List ℕ) (at i : ℕ) → IsMonic v i → slice_index (next f v at) (suc i) ≡ 1
+  next_leading : (v : List ℕ) (at i : ℕ) → IsMonic v i → slice_index (raised f at v) (suc i) ≡ 1
   next_leading v at i monic =
       let leads = leads_from_degree v i monic.degree_is in
-      slice_index-next v at i
+      slice_index-raised f h v at i
       ∙ ap (λ c. bit_xor (field_product f c c) (field_product f at (slice_index v (suc i)))) monic.leads
       ∙ ap (λ c. bit_xor (field_product f 1 1) (field_product f at c)) (leads.past (suc i) (omega arith))
       ∙ ap (bit_xor (field_product f 1 1)) (field_product-zero f h at)
       ∙ xor_zero_r (field_product f 1 1) ∙ field_product-one f h 1 one
 
-  next_past : (v : List ℕ) (at i : ℕ) → IsMonic v i → (k : ℕ) → suc i < k → slice_index (next f v at) k ≡ 0
+  next_past : (v : List ℕ) (at i : ℕ) → IsMonic v i → (k : ℕ) → suc i < k → slice_index (raised f at v) k ≡ 0
   next_past v at i monic zero more = absurd (omega arith)
   next_past v at i monic (suc k) more =
       let leads = leads_from_degree v i monic.degree_is in
-      slice_index-next v at k
+      slice_index-raised f h v at k
       ∙ ap (λ c. bit_xor (field_product f c c) (field_product f at (slice_index v (suc k)))) (leads.past k (omega arith))
       ∙ ap (λ c. bit_xor (field_product f 0 0) (field_product f at c)) (leads.past (suc k) (omega arith))
       ∙ ap (λ x. bit_xor x (field_product f at 0)) (field_product-zero f h 0)
       ∙ ap (bit_xor 0) (field_product-zero f h at)
 
-  degree-next : (v : List ℕ) (at i : ℕ) → IsMonic v i → degree (next f v at) ≡ Some (suc i)
+  degree-next : (v : List ℕ) (at i : ℕ) → IsMonic v i → degree (raised f at v) ≡ Some (suc i)
   degree-next v at i monic =
-      degree-leads (next f v at) (suc i)
+      degree-leads (raised f at v) (suc i)
       (record { leading = λ e. omega (arith, next_leading v at i monic, e); past = next_past v at i monic })
 
   -- one point more
   pub Vanishes-more : (points : List ℕ) (i at : ℕ) (v w : List ℕ) → i < length points → Vanishes f points i v → at ≡ value f v (slice_index points i)
-      → w ≡ trimmed (sum_of (trimmed (squared_up f v)) (trimmed (scaled f at v))) → Vanishes f points (i + 1) w
-  unfolding next
+      → w ≡ trimmed (raised f at v) → Vanishes f points (i + 1) w
   Vanishes-more points i at v w within was at_is w_is =
-      let n = next f v at in
+      let n = raised f at v in
       let P : ℕ → Type 0 = λ p. value f w p ≡ 0 in
       let degree_is = degree-next v at i was.monic in
       let value_is : (x : ℕ) → value f w x ≡ bit_xor (field_product f (value f v x) (value f v x)) (field_product f at (value f v x)) =
-      λ x. ap (λ l. value f l x) w_is ∙ value-trimmed f h n x ∙ value-next v at x in
+      λ x. ap (λ l. value f l x) w_is ∙ value-trimmed f h n x ∙ value-raised f h v at x in
       subst (λ k. Vanishes f points k w) (sym (add-one i))
       (record {
         over = subst (IsOver f.degree) (sym w_is)
-            (All-trimmed (λ c. c < 2 ^ f.degree) n
-            (IsOver-sum_of f.degree (trimmed (squared_up f v)) (trimmed (scaled f at v))
-            (All-trimmed (λ c. c < 2 ^ f.degree) (squared_up f v) (IsOver-squared_up f h v))
-            (All-trimmed (λ c. c < 2 ^ f.degree) (scaled f at v) (IsOver-scaled f h at v))));
+            (All-trimmed (λ c. c < 2 ^ f.degree) n (IsOver-raised f h v at));
         monic = record {
           degree_is = ap degree w_is ∙ degree-leads (trimmed n) (suc i)
               (record {

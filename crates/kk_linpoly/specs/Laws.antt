@@ -1,15 +1,15 @@
 -- The laws of linearised polynomials, which the functions of `laws` prove. cs, ds and es are coefficients.
-use Rattle.std.specs.Prelude.{◌≡◌, ◌≢◌, ℕ, ◌+◌, ◌<◌, ◌≤◌, ◌↔◌, List, [], ◌∷◌, Some, length, slice_index, bit_xor, All}
+use Rattle.std.specs.Prelude.{◌≡◌, ◌≢◌, ℕ, ◌+◌, ◌<◌, ◌≤◌, ◌↔◌, List, [], ◌∷◌, Some, None, length, slice_index, bit_xor, All}
 use Rattle.kk_field.specs.Field.{Modulus, field_product}
 use Rattle.kk_field.specs.Laws.{IsModulus, IsFieldModulus, IsResidue}
 use Rattle.kk_rows.specs.Span.{IsIndependent}
 use Rattle.kk_linpoly.specs.LinPoly.{value, IsOver, SamePolynomial, IsMonic, trimmed, degree, sum_of, scaled, composition, squared_up}
 
--- two lists are the same polynomial just where they are equal without the zeros at their ends
+-- two lists are the same polynomial exactly where they are equal without the zeros at their ends
 abbrev pub OneTrimmedForm : Type 0
 OneTrimmedForm = (cs ds : List ℕ) → SamePolynomial cs ds ↔ (trimmed cs ≡ trimmed ds)
 
--- coefficient e isn't 0, and all past it are
+-- coefficient e isn't 0, and all after it are
 pub record Leads (cs : List ℕ) (e : ℕ) : Type 0 where
   pub leading : slice_index cs e ≢ 0
   pub past : (i : ℕ) → e < i → slice_index cs i ≡ 0
@@ -17,6 +17,10 @@ pub record Leads (cs : List ℕ) (e : ℕ) : Type 0 where
 -- the degree by coefficients
 abbrev pub DegreeIsTheLast : Type 0
 DegreeIsTheLast = (cs : List ℕ) (e : ℕ) → (degree cs ≡ Some e) ↔ Leads cs e
+
+-- the zero polynomial alone has no degree
+abbrev pub NoDegreeIsZero : Type 0
+NoDegreeIsZero = (cs : List ℕ) → (degree cs ≡ None) ↔ SamePolynomial cs []
 
 -- the value at a point is linear in the polynomial, and the square of a polynomial has the square of its value
 pub record ValueIsLinear (f : Modulus) : Type 0 where
@@ -51,7 +55,7 @@ CompositionIsARing = (f : Modulus) → IsModulus f → IsCompositionRing f
 
 -- ---- over a field
 
--- the degree of a composition of two polynomials but 0 is the sum of their degrees
+-- the degree of a composition of two polynomials except 0 is the sum of their degrees
 abbrev pub DegreeOfComposition : Type 0
 DegreeOfComposition =
     (f : Modulus) → IsFieldModulus f → (cs ds : List ℕ) (j k : ℕ) → IsOver f.degree cs → IsOver f.degree ds

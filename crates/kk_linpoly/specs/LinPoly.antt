@@ -23,7 +23,7 @@ IsOver m cs = All (λ c. c < 2 ^ m) cs
 pub record SamePolynomial (cs ds : List ℕ) : Type 0 where
   pub coefficients : (i : ℕ) → slice_index cs i ≡ slice_index ds i
 
--- c and then cs, but nothing where that is 0 alone
+-- c and then cs, or nothing where that is 0 alone
 unfoldable pub with_first : ℕ → List ℕ → List ℕ
 with_first c [] = if c == 0 then [] else c ∷ []
 with_first c (d ∷ ds) = c ∷ d ∷ ds
@@ -77,3 +77,7 @@ composition f cs ds =
 -- the square of the polynomial, which is the composition of X^2 and it: each coefficient squared, one place up
 abbrev pub squared_up : Modulus → List ℕ → List ℕ
 squared_up f cs = 0 ∷ map (λ c. field_product f c c) cs
+
+-- the square of the polynomial plus d times it
+abbrev pub raised : Modulus → ℕ → List ℕ → List ℕ
+raised f d cs = sum_of (squared_up f cs) (scaled f d cs)

@@ -3,7 +3,7 @@ use Rattle.std.specs.Prelude.{◌≡◌, refl, [], ◌∷◌, Some, None}
 use Rattle.kk_field.specs.Polynomial.{product, product_below, remainder, remainder_below}
 use Rattle.kk_field.specs.Field.{field_product, frobenius}
 use Rattle.kk_field.specs.FieldExamples.{gf8}
-use Rattle.kk_linpoly.specs.LinPoly.{value, value_from, trimmed, with_first, degree, degree_with_first, sum_of, scaled, composition, xor_sum, squared_up}
+use Rattle.kk_linpoly.specs.LinPoly.{value, value_from, trimmed, with_first, degree, degree_with_first, IsMonic, sum_of, scaled, composition, xor_sum, squared_up, raised}
 
 -- 6·x + 7·x^2 + x^4 is 0 at 1 and at 2, and so at their sum
 pub zero_at_one : value gf8 (6 ∷ 7 ∷ 1 ∷ []) 1 ≡ 0
@@ -31,6 +31,10 @@ pub degree_one : degree (0 ∷ 5 ∷ 0 ∷ 0 ∷ []) ≡ Some 1
 unfolding degree degree_with_first
 degree_one = refl
 
+pub monic_of_degree_two : IsMonic (6 ∷ 7 ∷ 1 ∷ []) 2
+unfolding degree degree_with_first
+monic_of_degree_two = record { degree_is = refl; leads = refl }
+
 pub degree_of_zero : degree (0 ∷ 0 ∷ []) ≡ None
 unfolding degree degree_with_first
 degree_of_zero = refl
@@ -56,6 +60,15 @@ three_of_square = refl
 pub squared_three : squared_up gf8 (3 ∷ []) ≡ 0 ∷ 5 ∷ []
 unfolding field_product product product_below remainder remainder_below
 squared_three = refl
+
+-- X + X^2 is the square of X plus 1 times it, which is 0 at 1; one point more, 2, takes it to 6·X + 7·X^2 + X^4
+pub raised_for_one : raised gf8 1 (1 ∷ []) ≡ 1 ∷ 1 ∷ []
+unfolding sum_of field_product product product_below remainder remainder_below
+raised_for_one = refl
+
+pub raised_for_two : raised gf8 (value gf8 (1 ∷ 1 ∷ []) 2) (1 ∷ 1 ∷ []) ≡ 6 ∷ 7 ∷ 1 ∷ []
+unfolding sum_of value_from frobenius field_product product product_below remainder remainder_below
+raised_for_two = refl
 
 -- X + 2·X^2 after 3·X + X^2: the two terms at X^2, 1·1 and 2·3^2, cancel
 pub terms_cancel : composition gf8 (1 ∷ 2 ∷ []) (3 ∷ 1 ∷ []) ≡ 3 ∷ 0 ∷ 2 ∷ []

@@ -1,9 +1,10 @@
 //! Laws of linearised polynomials, each the contract of a function that does nothing.
 //!
-//! A proof in another crate cites such a law by the function's contract, or the lemmas behind it.
+//! A proof in another crate cites such a law by the function's contract, or the lemmas of its proof.
 ghost use Rattle.kk_linpoly.specs.Laws.{
   OneTrimmedForm,
   DegreeIsTheLast,
+  NoDegreeIsZero,
   ValuesAreLinear,
   ValueOfComposition,
   CompositionIsARing,
@@ -12,14 +13,19 @@ ghost use Rattle.kk_linpoly.specs.Laws.{
   OneVanishing,
 };
 
-/// Two lists have the same coefficients, 0 past their ends, just where they are equal without the zeros at their ends.
+/// Two lists have the same coefficients, 0 past their ends, exactly where they are equal without the zeros at their ends.
 pub fn one_trimmed_form()
     ensures { OneTrimmedForm }
 {}
 
-/// The degree is e just where coefficient e isn't 0 and all past it are.
+/// The degree is e exactly where coefficient e isn't 0 and all after it are.
 pub fn degree_is_the_last()
     ensures { DegreeIsTheLast }
+{}
+
+/// The degree is `None` exactly for the zero polynomial.
+pub fn no_degree_is_zero()
+    ensures { NoDegreeIsZero }
 {}
 
 /// The value at a point is linear in the polynomial and additive in the point, and a square has the square of the value.

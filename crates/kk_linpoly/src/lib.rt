@@ -4,7 +4,7 @@
 //! polynomials", 1933).
 #![tactic(auto)]
 
-pub use lin_poly::LinPoly;
+pub use lin_poly::{LinPoly, MAX_COEFFICIENTS};
 
 pub mod laws;
 mod lin_poly;

@@ -1,14 +1,17 @@
+//! A linearised polynomial: values, sums, multiples, compositions, vanishing polynomials.
 ghost use Rattle.std.specs.Prelude.{◌≡◌, ℕ, ◌+◌, ◌-◌, ◌*◌, ◌^◌, ◌<◌, ◌≤◌, ◌↔◌, length, max, IsTrue, All};
 ghost use Rattle.kk_rows.specs.Span.{in_span, IsIndependent};
-ghost use Rattle.kk_linpoly.specs.LinPoly.{IsOver, IsMonic, value, trimmed, degree, sum_of, scaled, composition, squared_up};
+ghost use Rattle.kk_linpoly.specs.declared.lin_poly.TheConstants.{MAX_COEFFICIENTS};
+ghost use Rattle.kk_linpoly.specs.LinPoly.{IsOver, IsMonic, value, trimmed, degree, sum_of, scaled, composition, squared_up, raised};
 
 use crate::places::{add_multiple, add_to, square_each, trimmed_len};
-use kk_field::{Field, Steps};
+use kk_field::Steps;
+use kk_tables::FieldTables;
 use std::marker::Model;
 use std::sync::ledger::Ledger;
 
 /// How many coefficients a polynomial can have.
-const MAX_LEN: usize = 128;
+pub const MAX_COEFFICIENTS: usize = 128;
 
 /// A linearised polynomial of degree at most 127: the sum of c_i·X^(2^i) over its coefficients c_i.
 ///
@@ -16,7 +19,7 @@ const MAX_LEN: usize = 128;
 #[derive(Clone, Debug, Drop)]
 pub struct LinPoly {
     // 0 from place `len` on
-    coefficients: [u64; MAX_LEN],
+    coefficients: [u64; MAX_COEFFICIENTS],
     len: usize,
 }
 
@@ -31,20 +34,41 @@ impl Model for LinPoly {
     ghost invariant = { λ p. IsStored p.len p.coefficients };
 }
 
+impl PartialEq for LinPoly {
+    ghost use Rattle.std.specs.Str.{bytes_eq};
+    ghost use Rattle.std.specs.Cmp.{partial_equiv_from_equiv};
+    ghost use Rattle.std.proofs.lemmas.Cmp.{nat_list_eq_equiv};
+
+    ghost eq = { bytes_eq };
+
+    ghost laws = { partial_equiv_from_equiv nat_list_eq_equiv };
+
+    fn eq(&self, other: &LinPoly) -> bool {
+        self.coeffs() == other.coeffs()
+    }
+}
+
+impl Eq for LinPoly {
+    ghost use Rattle.std.proofs.lemmas.Cmp.{nat_list_eq_equiv};
+
+    ghost laws = { nat_list_eq_equiv };
+}
+
 impl LinPoly {
     /// The polynomial with these coefficients, at most 128. Zeros at the end are dropped.
     pub fn from_slice(c: &[u64]) -> LinPoly
-        requires { length c.now ≤ 128 }
+        requires { length c.now ≤ MAX_COEFFICIENTS }
         ensures value { result ≡ trimmed c.now }
         ensures len { length result ≤ length c.now }
         ensures of_field { (m : ℕ) → IsOver m c.now → IsOver m result }
     {
-        let mut coefficients = [0; MAX_LEN];
+        let mut coefficients = [0; MAX_COEFFICIENTS];
         coefficients[..c.len()].copy_from_slice(c);
         LinPoly::from_array(coefficients)
     }
 
-    fn from_array(coefficients: [u64; MAX_LEN]) -> LinPoly
+    /// The polynomial with these coefficients.
+    fn from_array(coefficients: [u64; MAX_COEFFICIENTS]) -> LinPoly
         ensures { result ≡ trimmed coefficients }
     {
         let len = trimmed_len(&coefficients);
@@ -54,7 +78,7 @@ impl LinPoly {
     /// The coefficients, from that of X up. The last one isn't 0.
     pub fn coeffs(&self) -> &[u64]
         ensures value { result.now ≡ self.now }
-        ensures fits { length self.now ≤ 128 }
+        ensures fits { length self.now ≤ MAX_COEFFICIENTS }
         ensures no_zero_at_end { trimmed self.now ≡ self.now }
     {
         &self.coefficients[..self.len]
@@ -72,7 +96,7 @@ impl LinPoly {
     }
 
     /// The value at `x`.
-    pub fn eval<L: Ledger>(&self, field: &Field, x: u64, steps: &mut Steps<L>) -> u64
+    pub fn eval<L: Ledger>(&self, field: &FieldTables, x: u64, steps: &mut Steps<L>) -> u64
         requires of_field { IsOver field.now.degree self.now }
         requires x_below { x < 2 ^ field.now.degree }
         ensures value { result ≡ value field.now self.now x }
@@ -101,7 +125,7 @@ impl LinPoly {
     }
 
     /// `c` times the polynomial.
-    pub fn scale<L: Ledger>(&self, field: &Field, c: u64, steps: &mut Steps<L>) -> LinPoly
+    pub fn scale<L: Ledger>(&self, field: &FieldTables, c: u64, steps: &mut Steps<L>) -> LinPoly
         requires of_field { IsOver field.now.degree self.now }
         requires c_below { c < 2 ^ field.now.degree }
         ensures value { result ≡ trimmed (scaled field.now c self.now) }
@@ -109,14 +133,14 @@ impl LinPoly {
         ensures of_field { IsOver field.now.degree result }
         ensures cost { steps.new ≤ steps.old + length self.now }
     {
-        let mut product = [0; MAX_LEN];
-        add_multiple(&mut product, &field.ring(), c, self.coeffs(), steps);
+        let mut product = [0; MAX_COEFFICIENTS];
+        add_multiple(&mut product, field.ring(), c, self.coeffs(), steps);
         LinPoly::from_array(product)
     }
 
     /// The square, which is the composition of X^2 and the polynomial. Its degree is one more, so at most 127 coefficients
     /// have room for it.
-    pub fn square_up<L: Ledger>(&self, field: &Field, steps: &mut Steps<L>) -> LinPoly
+    pub fn square_up<L: Ledger>(&self, field: &FieldTables, steps: &mut Steps<L>) -> LinPoly
         requires of_field { IsOver field.now.degree self.now }
         requires fits { length self.now ≤ 127 }
         ensures value { result ≡ trimmed (squared_up field.now self.now) }
@@ -124,17 +148,42 @@ impl LinPoly {
         ensures of_field { IsOver field.now.degree result }
         ensures cost { steps.new ≤ steps.old + length self.now }
     {
-        let mut square = [0; MAX_LEN];
+        let mut square = [0; MAX_COEFFICIENTS];
         let places = &mut square[1..self.len + 1];
         places.copy_from_slice(self.coeffs());
-        square_each(places, &field.ring(), steps);
+        square_each(places, field.ring(), steps);
         LinPoly::from_array(square)
+    }
+
+    /// The square plus `d` times the polynomial: v^2 + d·v where the value of the polynomial is v, so 0 exactly where v is 0
+    /// or `d`. Its degree is one more, so at most 127 coefficients have room for it.
+    pub fn raised<L: Ledger>(&self, field: &FieldTables, d: u64, steps: &mut Steps<L>) -> LinPoly
+        requires of_field { IsOver field.now.degree self.now }
+        requires fits { length self.now ≤ 127 }
+        requires d_below { d < 2 ^ field.now.degree }
+        ensures value { result ≡ trimmed (raised field.now d self.now) }
+        ensures len { length result ≤ length self.now + 1 }
+        ensures of_field { IsOver field.now.degree result }
+        ensures cost { steps.new ≤ steps.old + 2 * length self.now }
+    {
+        let ring = field.ring();
+        let mut sum = [0; MAX_COEFFICIENTS];
+        let places = &mut sum[1..self.len + 1];
+        places.copy_from_slice(self.coeffs());
+        square_each(places, ring, steps);
+        add_multiple(&mut sum, ring, d, self.coeffs(), steps);
+        LinPoly::from_array(sum)
     }
 
     /// The composition, whose value at x is the value of the polynomial at the value of `g` at x.
     ///
     /// Its degree is the sum of the degrees, so together the two have at most 129 coefficients.
-    pub fn compose<L: Ledger>(&self, field: &Field, g: &LinPoly, steps: &mut Steps<L>) -> LinPoly
+    pub fn compose<L: Ledger>(
+        &self,
+        field: &FieldTables,
+        g: &LinPoly,
+        steps: &mut Steps<L>,
+    ) -> LinPoly
         requires of_field { IsOver field.now.degree self.now }
         requires g_of_field { IsOver field.now.degree g.now }
         requires fits { length self.now + length g.now ≤ 129 }
@@ -144,12 +193,12 @@ impl LinPoly {
         ensures cost { steps.new ≤ steps.old + length self.now * length g.now * (length self.now + 1) }
     {
         let ring = field.ring();
-        let mut sum = [0; MAX_LEN];
+        let mut sum = [0; MAX_COEFFICIENTS];
         // g^(2^i), in round i
         let mut powers = g.coefficients;
         for (i, c) in self.coeffs().iter().enumerate() {
-            add_multiple(&mut sum[i..], &ring, *c, &powers[..g.len], steps);
-            square_each(&mut powers[..g.len], &ring, steps);
+            add_multiple(&mut sum[i..], ring, *c, &powers[..g.len], steps);
+            square_each(&mut powers[..g.len], ring, steps);
         }
         LinPoly::from_array(sum)
     }
@@ -159,7 +208,11 @@ impl LinPoly {
     /// minimal polynomial of their span, which is 0 nowhere else.
     ///
     /// With one point p more, V becomes V^2 + V(p)·V (O. Ore, "On a special class of polynomials", 1933).
-    pub fn vanishing<L: Ledger>(field: &Field, points: &[u64], steps: &mut Steps<L>) -> LinPoly
+    pub fn vanishing<L: Ledger>(
+        field: &FieldTables,
+        points: &[u64],
+        steps: &mut Steps<L>,
+    ) -> LinPoly
         requires few { length points.now ≤ 127 }
         requires points_below { All (λ p. p < 2 ^ field.now.degree) points.now }
         ensures monic { IsMonic result (length points.now) }
@@ -170,13 +223,10 @@ impl LinPoly {
         ensures of_field { IsOver field.now.degree result }
         ensures cost { steps.new ≤ steps.old + 2 * length points.now * (length points.now + 1) }
     {
-        // For its contract: the modulus is irreducible, so that no other point is a zero.
-        let _ring = field.ring();
-        let mut v = LinPoly::from_slice(&[1]);
+        let mut v = LinPoly::from_slice(&[field.one()]);
         for p in points {
             let at = v.eval(field, *p, steps);
-            let multiple = v.scale(field, at, steps);
-            v = v.square_up(field, steps).add(&multiple);
+            v = v.raised(field, at, steps);
         }
         v
     }

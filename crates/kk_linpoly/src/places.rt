@@ -3,7 +3,8 @@ ghost use Rattle.std.specs.Prelude.{◌≡◌, ◌+◌, ◌≤◌, ◌<◌, ◌^
 ghost use Rattle.kk_field.specs.Field.{field_product};
 ghost use Rattle.kk_linpoly.specs.LinPoly.{IsOver, trimmed, sum_of, scaled};
 
-use kk_field::{Ring, Steps};
+use kk_field::Steps;
+use kk_tables::FieldTables;
 use std::sync::ledger::Ledger;
 
 /// How many coefficients are left without the zeros at the end.
@@ -31,7 +32,7 @@ pub(crate) fn add_to(sum: &mut [u64], coefficients: &[u64])
 /// Adds `a` times the coefficients, place by place.
 pub(crate) fn add_multiple<L: Ledger>(
     sum: &mut [u64],
-    ring: &Ring,
+    ring: &FieldTables,
     a: u64,
     coefficients: &[u64],
     steps: &mut Steps<L>,
@@ -48,7 +49,11 @@ pub(crate) fn add_multiple<L: Ledger>(
 }
 
 /// Squares each coefficient.
-pub(crate) fn square_each<L: Ledger>(coefficients: &mut [u64], ring: &Ring, steps: &mut Steps<L>)
+pub(crate) fn square_each<L: Ledger>(
+    coefficients: &mut [u64],
+    ring: &FieldTables,
+    steps: &mut Steps<L>,
+)
     requires { IsOver ring.now.degree coefficients.old }
     ensures value { coefficients.new ≡ map (λ c. field_product ring.now c c) coefficients.old }
     ensures cost { steps.new ≤ steps.old + length coefficients.old }

@@ -3,21 +3,23 @@ ghost use Rattle.std.specs.Prelude.{◌≡◌, ◌<◌, IfSome};
 
 use crate::LinPoly;
 use kk_field::{Field, Ring, Steps};
+use kk_tables::FieldTables;
 use std::marker::Brand;
 use std::sync::ledger::{Blank, Ledger};
 use std::test::Fail;
 
-fn gf8() -> Option<Field>
+/// The tables of GF(8), or `None` if X^3 + X + 1 had factors.
+fn gf8() -> Option<FieldTables>
     ensures { IfSome result (λ f. f ≡ record { degree = 3; low = 3 }) }
 {
     let ring = Ring::new(3, 3);
     if !ring.is_irreducible() {
         return None;
     }
-    Some(Field::of(ring))
+    Some(FieldTables::new(Field::of(ring)))
 }
 
-// The vanishing polynomial of 1 and 2, and its values at 3, their sum, and at 4, where it is 5 + 4 + 2.
+/// The vanishing polynomial of 1 and 2, and its values at 3, their sum, and at 4, where it is 5 + 4 + 2.
 fn of_one_and_two<L: Ledger>(blank: Blank) -> Option<(LinPoly, u64, u64)>
     requires name { blank.name ≡ L.name }
     requires parts { blank.parts ≡ L.parts }
@@ -40,7 +42,7 @@ fn vanishing_polynomial_of_two_points(rt: HostRuntime) -> Result<(), Fail> {
     Ok(())
 }
 
-// X^2 after 3·X, and 3·X after X^2.
+/// X^2 after 3·X, and 3·X after X^2.
 fn both_compositions<L: Ledger>(blank: Blank) -> Option<(LinPoly, LinPoly)>
     requires name { blank.name ≡ L.name }
     requires parts { blank.parts ≡ L.parts }
@@ -63,8 +65,8 @@ fn composition_does_not_commute(rt: HostRuntime) -> Result<(), Fail> {
     Ok(())
 }
 
-// 2 times a polynomial, and the square of another.
-fn multiple_and_square<L: Ledger>(blank: Blank) -> Option<(LinPoly, LinPoly)>
+/// 2 times a polynomial, the square of another, and the square of X + X^2 plus 6 times it.
+fn multiple_and_squares<L: Ledger>(blank: Blank) -> Option<(LinPoly, LinPoly, LinPoly)>
     requires name { blank.name ≡ L.name }
     requires parts { blank.parts ≡ L.parts }
     requires some { 0 < blank.parts }
@@ -73,14 +75,18 @@ fn multiple_and_square<L: Ledger>(blank: Blank) -> Option<(LinPoly, LinPoly)>
     let mut steps: Steps<L> = Steps::new(blank);
     let multiple = LinPoly::from_slice(&[1, 2, 4]).scale(&field, 2, &mut steps);
     let square = LinPoly::from_slice(&[3]).square_up(&field, &mut steps);
-    Some((multiple, square))
+    let raised = LinPoly::from_slice(&[1, 1]).raised(&field, 6, &mut steps);
+    Some((multiple, square, raised))
 }
 
 #[test]
-fn a_multiple_and_a_square(rt: HostRuntime) -> Result<(), Fail> {
-    let (multiple, square) = multiple_and_square::<Brand>(Blank::new(1)).ok_or("reducible")?;
+fn a_multiple_and_two_squares(rt: HostRuntime) -> Result<(), Fail> {
+    let (multiple, square, raised) = multiple_and_squares::<Brand>(Blank::new(1)).ok_or(
+        "reducible",
+    )?;
     assert_eq!(rt; multiple.coeffs(), [2, 4, 3].as_slice());
     assert_eq!(rt; square.coeffs(), [0, 5].as_slice());
+    assert_eq!(rt; raised.coeffs(), [6, 7, 1].as_slice());
     Ok(())
 }
 
@@ -91,6 +97,8 @@ fn zeros_at_the_end_are_dropped(rt: HostRuntime) -> Result<(), Fail> {
     let g = LinPoly::from_slice(&[1, 7, 1]);
     assert_eq!(rt; f.add(&g).coeffs(), [7].as_slice());
     assert_eq!(rt; f.add(&f.clone()?).degree(), None);
+    assert!(rt; f == LinPoly::from_slice(&[6, 7, 1]));
+    assert!(rt; f != g);
     Ok(())
 }
 

@@ -13,7 +13,7 @@ use Rattle.kk_linpoly.proofs.lin_poly.LinPoly.compose.Goals.{After-from_array}
 
 pub loop-i-init : goal.loop-i-init
 loop-i-init g c =
-    let f = c.ring-ring.result in
+    let f = c.ring-ring.result.now in
     let low = c.ring-ring.ensures.irreducible.modulus.low_below in
     record {
       sum_is = λ n. slice_index-zeros 128 n ∙ sym (composed-none f low (slice_index c.args.g.now) n);
@@ -29,17 +29,17 @@ powers_over f e same low ds powers i over powers_are =
 
 pub add_multiple-requires-clause-of_field : goal.add_multiple-requires-clause-of_field
 add_multiple-requires-clause-of_field g c =
-    powers_over c.ring-ring.result c.args.field.now c.ring-ring.ensures.value c.ring-ring.ensures.irreducible.modulus.low_below c.args.g.now
+    powers_over c.ring-ring.result.now c.args.field.now c.ring-ring.ensures.value c.ring-ring.ensures.irreducible.modulus.low_below c.args.g.now
     (take c.g.inside.len c.loop-i.powers) c.loop-i.i c.requires.g_of_field c.loop-i.invariant.powers_are
 
 pub square_each-requires : goal.square_each-requires
 square_each-requires g c =
-    powers_over c.ring-ring.result c.args.field.now c.ring-ring.ensures.value c.ring-ring.ensures.irreducible.modulus.low_below c.args.g.now
+    powers_over c.ring-ring.result.now c.args.field.now c.ring-ring.ensures.value c.ring-ring.ensures.irreducible.modulus.low_below c.args.g.now
     (take c.g.inside.len c.loop-i.powers) c.loop-i.i c.requires.g_of_field c.loop-i.invariant.powers_are
 
 pub loop-i-preserved : goal.loop-i-preserved
 loop-i-preserved g c =
-    let f = c.ring-ring.result in
+    let f = c.ring-ring.result.now in
     let low = c.ring-ring.ensures.irreducible.modulus.low_below in
     let cs = c.coeffs-c-items.result.now in
     let ds = c.args.g.now in
@@ -59,7 +59,7 @@ loop-i-preserved g c =
 
 value_is : (g : Over) (c : After-from_array g) → c.from_array.result ≡ trimmed (composition c.args.field.now c.args.self.now c.args.g.now)
 value_is g c =
-    let f = c.ring-ring.result in
+    let f = c.ring-ring.result.now in
     let cs = c.coeffs-c-items.result.now in
     let ds = c.args.g.now in
     c.from_array.ensures

@@ -10,7 +10,7 @@ use Rattle.kk_linpoly.proofs.lin_poly.LinPoly.eval.Goals as goal
 pub loop-c-init : goal.loop-c-init
 unfolding frobenius
 loop-c-init g c =
-    let f = c.ring-ring.result in
+    let f = c.ring-ring.result.now in
     record {
       power_is = refl;
       power_below = subst (λ f. c.args.x < 2 ^ f.degree) (sym c.ring-ring.ensures.value) c.requires.x_below;
@@ -22,7 +22,7 @@ loop-c-init g c =
 pub loop-c-preserved : goal.loop-c-preserved
 unfolding frobenius
 loop-c-preserved g c =
-    let f = c.ring-ring.result in
+    let f = c.ring-ring.result.now in
     let inv = c.loop-c.invariant in
     let i = c.loop-c.c-index in
     let cs = c.coeffs-c-items.result.now in

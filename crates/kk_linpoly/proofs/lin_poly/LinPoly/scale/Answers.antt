@@ -11,7 +11,7 @@ use Rattle.kk_linpoly.proofs.lin_poly.LinPoly.scale.Goals.{After-from_array}
 
 value_is : (g : Over) (c : After-from_array g) → c.from_array.result ≡ trimmed (scaled c.args.field.now c.args.c c.args.self.now)
 value_is g c =
-    let product = scaled c.ring.result c.args.c c.coeffs.result.now in
+    let product = scaled c.ring.result.now c.args.c c.coeffs.result.now in
     c.from_array.ensures ∙ ap trimmed c.add_multiple.ensures.value
     ∙ trimmed-same (sum_of (replicate 128 0) product) product (SamePolynomial-zeros_sum 128 product)
     ∙ ap (λ f. trimmed (scaled f c.args.c c.coeffs.result.now)) c.ring.ensures.value

@@ -18,7 +18,7 @@ value_is g c =
     let k = c.self.inside.len + 1 - 1 in
     c.from_array.ensures
     ∙ ap (λ l. trimmed (take 1 (replicate 128 0) ++ (l ++ drop k (drop 1 (replicate 128 0)))))
-    (c.square_each.ensures.value ∙ ap (squares_of c.ring.result) (c.copy_from_slice.ensures.after ∙ c.coeffs.ensures.value)
+    (c.square_each.ensures.value ∙ ap (squares_of c.ring.result.now) (c.copy_from_slice.ensures.after ∙ c.coeffs.ensures.value)
     ∙ ap (λ f. squares_of f c.args.self.now) c.ring.ensures.value)
     ∙ square_placed (squares_of c.args.field.now c.args.self.now) k
 

@@ -1,33 +1,30 @@
-use Rattle.std.proofs.Common.{◌≡◌, ◌≤◌, List, ℕ, Some, length, ap, ap₂, ◌∙◌, subst, arith}
+use Rattle.std.proofs.Common.{◌≡◌, ◌≤◌, List, [], ◌∷◌, ℕ, Some, length, ap, ◌∙◌, subst, arith}
 use Rattle.std.proofs.lemmas.List.{take_all}
 use Rattle.kk_field.specs.Field.{Modulus}
-use Rattle.kk_field.specs.Laws.{IsFieldModulus}
 use Rattle.kk_field.proofs.Residues.{one_small}
-use Rattle.kk_linpoly.specs.LinPoly.{trimmed, sum_of}
+use Rattle.kk_linpoly.specs.LinPoly.{trimmed}
 use Rattle.kk_linpoly.specs.Laws.{VanishesAt}
 use Rattle.kk_linpoly.proofs.Vanishings.{Vanishes, Vanishes-none, Vanishes-more, trimmed-one, zeros_hold_span, zeros_in_span}
 use Rattle.kk_linpoly.proofs.lin_poly.LinPoly.vanishing.Goals as goal
 
 pub loop-p-init : goal.loop-p-init
 loop-p-init g c =
-    let is = subst IsFieldModulus c.ring-ring.ensures.value c.ring-ring.ensures.irreducible in
+    let is = c.one.ensures.irreducible in
     record {
       so_far = Vanishes-none c.args.field.now (one_small c.args.field.now.degree is.modulus.at_least_one) c.args.points.now c.from_slice-v.result
-          (c.from_slice-v.ensures.value ∙ trimmed-one);
+          (c.from_slice-v.ensures.value ∙ ap (λ x. trimmed (x ∷ [])) c.one.ensures.value ∙ trimmed-one);
       counted = omega arith;
     }
 
 pub loop-p-preserved : goal.loop-p-preserved
 loop-p-preserved g c =
-    let is = subst IsFieldModulus c.ring-ring.ensures.value c.ring-ring.ensures.irreducible in
+    let is = c.one.ensures.irreducible in
     let f = c.args.field.now in
     let inv = c.loop-p.invariant in
-    let joined : c.add-v.result ≡ trimmed (sum_of c.square_up.result c.scale-multiple.result) = c.add-v.ensures.value in
     record {
       so_far = Vanishes-more f is.modulus.low_below (one_small f.degree is.modulus.at_least_one) c.args.points.now c.loop-p.p-index c.eval-at.result
-          c.loop-p.v c.add-v.result c.loop-p-test.true inv.so_far c.eval-at.ensures.value
-          (joined ∙ ap₂ (λ a b. trimmed (sum_of a b)) c.square_up.ensures.value c.scale-multiple.ensures.value);
-      counted = omega (arith, inv.counted, inv.so_far.count, c.eval-at.ensures.cost, c.scale-multiple.ensures.cost, c.square_up.ensures.cost);
+          c.loop-p.v c.raised-v.result c.loop-p-test.true inv.so_far c.eval-at.ensures.value c.raised-v.ensures.value;
+      counted = omega (arith, inv.counted, inv.so_far.count, c.eval-at.ensures.cost, c.raised-v.ensures.cost);
     }
 
 -- the loop is through
@@ -39,7 +36,7 @@ returns-clause-zeros g c = all_points c.args.field.now c.args.points.now c.loop-
 
 pub returns-clause-no_others : goal.returns-clause-no_others
 returns-clause-no_others g c = λ independent x below.
-    let is = subst IsFieldModulus c.ring-ring.ensures.value c.ring-ring.ensures.irreducible in
+    let is = c.one.ensures.irreducible in
     let f = c.args.field.now in
     let points = c.args.points.now in
     let h = c.loop-p.invariant.so_far in
