@@ -1,0 +1,12 @@
+pub mod Logs
+pub mod Turns
+pub mod Histories
+pub mod Advances
+pub mod Worlds
+pub mod Runs
+pub mod Inserted
+pub mod Counted
+pub mod Goals
+pub mod Sights
+pub mod WorldFields
+pub mod LogLists

@@ -1,0 +1,10 @@
+pub mod Spaces
+pub mod History
+pub mod Steps
+pub mod Sights
+pub mod World
+pub mod Worlds
+pub mod WorldExamples
+pub mod Inserts
+pub mod Goals
+pub mod Laws
