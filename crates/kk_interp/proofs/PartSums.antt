@@ -2,17 +2,19 @@
 use Rattle.std.proofs.Common.{◌≡◌, ◌≢◌, ℕ, zero, suc, ◌^◌, ◌<◌, ◌≤◌, List, [], ◌∷◌, length, bit_xor, refl, sym, ap, ◌∙◌, arith, inl, inr}
 use Rattle.std.specs.Prelude.{slice_index}
 use Rattle.std.proofs.lemmas.Bool.{cases_lt}
+use Rattle.std.specs.Int.Bits.{xor_zero_l}
 use Rattle.std.proofs.lemmas.List.{get_or_past}
 use Rattle.kk_field.specs.Polynomial.{IsIrreducible}
 use Rattle.kk_field.specs.Field.{Modulus, polynomial, field_product}
 use Rattle.kk_field.proofs.Residues.{field_product-zero}
-use Rattle.kk_linpoly.specs.LinPoly.{IsOver, value, trimmed, sum_of, scaled, squared_up}
+use Rattle.kk_linpoly.specs.LinPoly.{IsOver, value, trimmed, sum_of, scaled, squared_up, raised}
 use Rattle.kk_linpoly.proofs.Trimmed.{slice_index-trimmed, trimmed-zeros, trimmed-trimmed, All-trimmed, degree-some, length-trimmed_of_degree}
-use Rattle.kk_linpoly.proofs.Coefficients.{slice_index-scaled, IsOver-sum_of, IsOver-scaled, IsOver-squared_up}
+use Rattle.kk_linpoly.proofs.Coefficients.{slice_index-scaled, slice_index-sum_of, IsOver-sum_of, IsOver-scaled}
 use Rattle.kk_linpoly.proofs.DegreeLaws.{Leads, degree-leads, leads_or_zero, leads_from_degree, sum_of-past, Leads-sum_of_left, Leads-sum_of_right, Leads-scaled, Leads-squared_up}
-use Rattle.kk_linpoly.proofs.Values.{value-sum_of, value-scaled, value-squared_up, value-trimmed}
+use Rattle.kk_linpoly.proofs.Vanishings.{IsOver-raised, value-raised}
+use Rattle.kk_linpoly.proofs.Values.{value-sum_of, value-scaled, value-trimmed}
 use Rattle.kk_interp.specs.BiPoly.{IsPart}
-use Rattle.kk_interp.specs.Steps.{grown, raised_value, combined_value, IsRaisedPart, IsCombinedPart}
+use Rattle.kk_interp.specs.Steps.{grown, combined_value, IsRaisedPart, IsCombinedPart}
 
 -- ---- lengths and leading coefficients
 
@@ -57,13 +59,6 @@ grown-positive (suc n) h = grown-suc n
 pub IsPart-trimmed : (m : ℕ) (cs : List ℕ) → IsOver m cs → IsPart m (trimmed cs)
 IsPart-trimmed m cs over = record { over = All-trimmed (λ c. c < 2 ^ m) cs over; no_zero_at_end = trimmed-trimmed cs }
 
-pub raised_part : Modulus → ℕ → List ℕ → List ℕ
-raised_part f d cs = sum_of (trimmed (squared_up f cs)) (trimmed (scaled f d cs))
-
-pub raised_part-is : (f : Modulus) (d : ℕ) (cs : List ℕ) → raised_part f d cs ≡ sum_of (trimmed (squared_up f cs)) (trimmed (scaled f d cs))
-unfolding raised_part
-raised_part-is f d cs = refl
-
 pub combined_part : Modulus → ℕ → List ℕ → ℕ → List ℕ → List ℕ
 combined_part f a cs b ds = sum_of (trimmed (scaled f a cs)) (trimmed (scaled f b ds))
 
@@ -88,50 +83,40 @@ module _ (f : Modulus) (h : f.low < 2 ^ f.degree) (irreducible : IsIrreducible (
 
   -- ---- the square plus a multiple
 
-  raised_zero : (d : ℕ) → length (trimmed (raised_part f d [])) ≡ 0
-  unfolding raised_part
+  raised_zero : (d : ℕ) → length (trimmed (raised f d [])) ≡ 0
   raised_zero d =
-      let none : length (trimmed (raised_part f d [])) ≤ 0 =
-      length-trimmed-at_most (raised_part f d []) 0
-      (sum_of-past (trimmed (squared_up f [])) (trimmed (scaled f d [])) 0
-      (trimmed-past (squared_up f []) 0 (λ i from. zero_alone i))
-      (scaled-past d [] 0 (omega arith))) in
+      let none : length (trimmed (raised f d [])) ≤ 0 =
+      length-trimmed-at_most (raised f d []) 0
+      (sum_of-past (squared_up f []) (scaled f d []) 0 (λ i from. zero_alone i) (λ i from. get_or_past (scaled f d []) i 0 (omega arith))) in
       omega arith
     where
       zero_alone : (i : ℕ) → slice_index (0 ∷ []) i ≡ 0
       zero_alone zero = refl
       zero_alone (suc i) = refl
 
-  raised_leads : (d : ℕ) (cs : List ℕ) (e : ℕ) → IsPart f.degree cs → length cs ≡ suc e → Leads (raised_part f d cs) (suc e)
-  unfolding raised_part
+  raised_leads : (d : ℕ) (cs : List ℕ) (e : ℕ) → IsPart f.degree cs → length cs ≡ suc e → Leads (raised f d cs) (suc e)
   raised_leads d cs e part long =
-      Leads-sum_of_left (trimmed (squared_up f cs)) (trimmed (scaled f d cs)) (suc e)
-      (Leads-trimmed (squared_up f cs) (suc e)
-      (Leads-squared_up f h irreducible cs e part.over (leads_of_length cs e part.no_zero_at_end long)))
-      (scaled-past d cs (suc e) (omega arith))
+      Leads-sum_of_left (squared_up f cs) (scaled f d cs) (suc e)
+      (Leads-squared_up f h irreducible cs e part.over (leads_of_length cs e part.no_zero_at_end long))
+      (λ i from. sym (slice_index-trimmed (scaled f d cs) i) ∙ scaled-past d cs (suc e) (omega arith) i from)
 
-  length-raised : (d : ℕ) (cs : List ℕ) → IsPart f.degree cs → length (trimmed (raised_part f d cs)) ≡ grown (length cs)
+  length-raised : (d : ℕ) (cs : List ℕ) → IsPart f.degree cs → length (trimmed (raised f d cs)) ≡ grown (length cs)
   length-raised d [] part = raised_zero d ∙ sym grown-zero
   length-raised d (c ∷ cs) part =
-      length_of_leads (raised_part f d (c ∷ cs)) (suc (length cs)) (raised_leads d (c ∷ cs) (length cs) part refl)
+      length_of_leads (raised f d (c ∷ cs)) (suc (length cs)) (raised_leads d (c ∷ cs) (length cs) part refl)
       ∙ sym (grown-suc (length cs))
 
-  value-raised : (d : ℕ) (cs : List ℕ) (x : ℕ) → value f (trimmed (raised_part f d cs)) x ≡ raised_value f d (value f cs x)
-  unfolding raised_part
-  value-raised d cs x =
-      value-trimmed f h (raised_part f d cs) x
-      ∙ value-sum_of f h (trimmed (squared_up f cs)) (trimmed (scaled f d cs)) x
-      ∙ ap (λ v. bit_xor v (value f (trimmed (scaled f d cs)) x)) (value-trimmed f h (squared_up f cs) x ∙ value-squared_up f h cs x)
-      ∙ ap (bit_xor (field_product f (value f cs x) (value f cs x))) (value-trimmed f h (scaled f d cs) x ∙ value-scaled f h d cs x)
+  first-raised : (d : ℕ) (cs : List ℕ) → slice_index (trimmed (raised f d cs)) 0 ≡ field_product f d (slice_index cs 0)
+  first-raised d cs =
+      slice_index-trimmed (raised f d cs) 0 ∙ slice_index-sum_of (squared_up f cs) (scaled f d cs) 0
+      ∙ xor_zero_l (slice_index (scaled f d cs) 0) ∙ slice_index-scaled f h d cs 0
 
-  pub IsRaisedPart-raised : (d : ℕ) (cs : List ℕ) → IsPart f.degree cs → IsRaisedPart f d cs (trimmed (raised_part f d cs))
-  unfolding raised_part
+  pub IsRaisedPart-raised : (d : ℕ) (cs : List ℕ) → IsPart f.degree cs → IsRaisedPart f d cs (trimmed (raised f d cs))
   IsRaisedPart-raised d cs part = record {
-    part = IsPart-trimmed f.degree (raised_part f d cs)
-        (IsOver-sum_of f.degree (trimmed (squared_up f cs)) (trimmed (scaled f d cs))
-        (trimmed_over (squared_up f cs) (IsOver-squared_up f h cs)) (trimmed_over (scaled f d cs) (IsOver-scaled f h d cs)));
+    part = IsPart-trimmed f.degree (raised f d cs) (IsOver-raised f h cs d);
     grows = length-raised d cs part;
-    values = value-raised d cs;
+    first = first-raised d cs;
+    values = λ x. value-trimmed f h (raised f d cs) x ∙ value-raised f h cs d x;
   }
 
   -- ---- a combination
@@ -170,6 +155,14 @@ module _ (f : Modulus) (h : f.low < 2 ^ f.degree) (irreducible : IsIrreducible (
       ∙ ap (λ v. bit_xor v (value f (trimmed (scaled f b ds)) x)) (value-trimmed f h (scaled f a cs) x ∙ value-scaled f h a cs x)
       ∙ ap (bit_xor (field_product f a (value f cs x))) (value-trimmed f h (scaled f b ds) x ∙ value-scaled f h b ds x)
 
+  first-combined : (a b : ℕ) (cs ds : List ℕ)
+      → slice_index (trimmed (combined_part f a cs b ds)) 0 ≡ combined_value f a (slice_index cs 0) b (slice_index ds 0)
+  unfolding combined_part
+  first-combined a b cs ds =
+      slice_index-trimmed (combined_part f a cs b ds) 0 ∙ slice_index-sum_of (trimmed (scaled f a cs)) (trimmed (scaled f b ds)) 0
+      ∙ ap (λ v. bit_xor v (slice_index (trimmed (scaled f b ds)) 0)) (slice_index-trimmed (scaled f a cs) 0 ∙ slice_index-scaled f h a cs 0)
+      ∙ ap (bit_xor (field_product f a (slice_index cs 0))) (slice_index-trimmed (scaled f b ds) 0 ∙ slice_index-scaled f h b ds 0)
+
   pub IsCombinedPart-combined : (a b : ℕ) (cs ds : List ℕ) → a < 2 ^ f.degree → a ≢ 0 → b < 2 ^ f.degree → b ≢ 0
       → IsPart f.degree cs → IsPart f.degree ds → IsCombinedPart f a cs b ds (trimmed (combined_part f a cs b ds))
   unfolding combined_part
@@ -180,5 +173,6 @@ module _ (f : Modulus) (h : f.low < 2 ^ f.degree) (irreducible : IsIrreducible (
     left = length-combined_left a b cs ds a_below a_some c_part;
     right = length-combined_right a b cs ds b_below b_some d_part;
     at_most = length-combined_at_most a b cs ds;
+    first = first-combined a b cs ds;
     values = value-combined a b cs ds;
   }

@@ -1,4 +1,6 @@
 pub mod BiPoly
 pub mod Interpolation
+pub mod Pair
+pub mod State
 pub mod Steps
 pub mod Examples

@@ -1,9 +1,12 @@
-ghost use Rattle.std.specs.Prelude.{◌≡◌, ◌≢◌, ◌+◌, ◌*◌, ◌^◌, ◌<◌, ◌≤◌};
+//! The polynomial in two variables.
+ghost use Rattle.std.specs.Prelude.{◌≡◌, ◌≢◌, ◌+◌, ◌*◌, ◌^◌, ◌<◌, ◌≤◌, length};
 ghost use Rattle.kk_field.specs.Laws.{IsFieldModulus};
+ghost use Rattle.kk_interp.specs.BiPoly.{IsPart};
+ghost use Rattle.kk_interp.specs.Steps.{IsCombinedPart};
 
-use crate::parts;
-use kk_field::{Field, Steps};
+use kk_field::Steps;
 use kk_linpoly::LinPoly;
+use kk_tables::FieldTables;
 use std::sync::ledger::Ledger;
 
 /// The polynomial qx(x) + qy(y) in two variables, whose parts are linearised polynomials.
@@ -30,11 +33,17 @@ impl BiPoly {
     }
 
     /// The value at (x, y).
-    pub(crate) fn eval<L: Ledger>(&self, field: &Field, x: u64, y: u64, steps: &mut Steps<L>) -> u64
-        requires of_field { IsOfField field.now self.now }
+    pub(crate) fn eval<L: Ledger>(
+        &self,
+        field: &FieldTables,
+        x: u64,
+        y: u64,
+        steps: &mut Steps<L>,
+    ) -> u64
+        requires of_field { IsOfField field.now self.now.qx self.now.qy }
         requires x_below { x < 2 ^ field.now.degree }
         requires y_below { y < 2 ^ field.now.degree }
-        ensures value { result ≡ value_at field.now self.now x y }
+        ensures value { result ≡ value_at field.now self.now.qx self.now.qy x y }
         ensures below { result < 2 ^ field.now.degree }
         ensures cost { steps.new ≤ steps.old + 2 * size self.now }
     {
@@ -42,32 +51,37 @@ impl BiPoly {
     }
 
     /// The square plus `d` times the polynomial, whose value is 0 where that of the polynomial is `d`.
-    pub(crate) fn raised<L: Ledger>(&self, field: &Field, d: u64, steps: &mut Steps<L>) -> BiPoly
+    pub(crate) fn raised<L: Ledger>(
+        &self,
+        field: &FieldTables,
+        d: u64,
+        steps: &mut Steps<L>,
+    ) -> BiPoly
         requires field { IsFieldModulus field.now }
-        requires of_field { IsOfField field.now self.now }
+        requires of_field { IsOfField field.now self.now.qx self.now.qy }
         requires fits { IsShort 127 self.now }
         requires d_below { d < 2 ^ field.now.degree }
         ensures raised { IsRaised field.now d self.now result }
         ensures cost { steps.new ≤ steps.old + 2 * size self.now }
     {
         BiPoly {
-            qx: parts::raised(&self.qx, field, d, steps),
-            qy: parts::raised(&self.qy, field, d, steps),
+            qx: self.qx.raised(field, d, steps),
+            qy: self.qy.raised(field, d, steps),
         }
     }
 
     /// `a` times the polynomial plus `b` times `other`.
     pub(crate) fn combined<L: Ledger>(
         &self,
-        field: &Field,
+        field: &FieldTables,
         a: u64,
         other: &BiPoly,
         b: u64,
         steps: &mut Steps<L>,
     ) -> BiPoly
         requires field { IsFieldModulus field.now }
-        requires of_field { IsOfField field.now self.now }
-        requires other_of_field { IsOfField field.now other.now }
+        requires of_field { IsOfField field.now self.now.qx self.now.qy }
+        requires other_of_field { IsOfField field.now other.now.qx other.now.qy }
         requires a_below { a < 2 ^ field.now.degree }
         requires b_below { b < 2 ^ field.now.degree }
         requires a_some { a ≢ 0 }
@@ -76,8 +90,31 @@ impl BiPoly {
         ensures cost { steps.new ≤ steps.old + (size self.now + size other.now) }
     {
         BiPoly {
-            qx: parts::combined(&self.qx, field, a, &other.qx, b, steps),
-            qy: parts::combined(&self.qy, field, a, &other.qy, b, steps),
+            qx: combined_part(&self.qx, field, a, &other.qx, b, steps),
+            qy: combined_part(&self.qy, field, a, &other.qy, b, steps),
         }
     }
+}
+
+/// `a` times `part` plus `b` times `other`.
+fn combined_part<L: Ledger>(
+    part: &LinPoly,
+    field: &FieldTables,
+    a: u64,
+    other: &LinPoly,
+    b: u64,
+    steps: &mut Steps<L>,
+) -> LinPoly
+    requires field { IsFieldModulus field.now }
+    requires of_field { IsPart field.now.degree part.now }
+    requires other_of_field { IsPart field.now.degree other.now }
+    requires a_below { a < 2 ^ field.now.degree }
+    requires b_below { b < 2 ^ field.now.degree }
+    requires a_some { a ≢ 0 }
+    requires b_some { b ≢ 0 }
+    ensures combined { IsCombinedPart field.now a part.now b other.now result }
+    ensures cost { steps.new ≤ steps.old + (length part.now + length other.now) }
+{
+    let multiple = part.scale(field, a, steps);
+    multiple.add(&other.scale(field, b, steps))
 }

@@ -1,126 +1,168 @@
-ghost use Rattle.std.specs.Prelude.{◌≡◌, ◌≢◌, ◌⊎◌, ℕ, ◌+◌, ◌-◌, ◌*◌, ◌/◌, ◌^◌, ◌<◌, ◌≤◌, List, [], ◌∷◌, ◌++◌, length};
+//! The interpolation.
+//!
+//! It is Kötter's interpolation, here over linearised polynomials in two variables, one point at a time (R. Kötter and
+//! F. R. Kschischang, "Coding for errors and erasures in random network coding", IEEE Trans. Inf. Theory 54(8), 2008, section V).
+//! Two polynomials that are 0 at all points so far are kept: one whose leading term is in x, and one whose leading term is
+//! in y. At a further point there are three cases.
+//!
+//! 1. A polynomial that is 0 there stays.
+//! 2. Where one of them alone has a value d other than 0, it becomes its square plus d times itself.
+//! 3. Where both have one, the lesser becomes that too, and the sum of multiples of both that is 0 at the point replaces the
+//!    greater, whose leading term it keeps.
+//!
+//! The weights of both sum to k - 1 at first, and with each point to at most one more. So the lesser weighs at most half
+//! of k - 1 and the number of points.
+ghost use Rattle.std.specs.Prelude.{◌≡◌, ◌≢◌, ◌⊎◌, ◌↔◌, ◌+◌, ◌-◌, ◌*◌, ◌/◌, ◌^◌, ◌<◌, ◌≤◌, [], ◌∷◌, ◌++◌, IsTrue, length, slice_index};
 
 use crate::bi_poly::BiPoly;
-use crate::pair::Pair;
 use kk_field::{Field, Steps};
 use kk_linpoly::LinPoly;
+use kk_tables::FieldTables;
 use std::marker::Model;
 use std::sync::ledger::Ledger;
 
+/// The points and k are together at most this many.
+const MAX_POINTS: usize = 128;
+
 /// The interpolation of a polynomial qx(x) + qy(y) of small weight through points that are given one by one.
 ///
-/// Clauses see an `Interpolation`, and the relation `Interpolates` says which points were given.
+/// Clauses see an `Interpolation`: the modulus, k, the points that were given, and `least`.
 #[derive(Drop)]
 pub struct Interp {
     field: Field,
     k: u32,
-    points: u32,
-    pair: Pair,
+    points: [(u64, u64); MAX_POINTS],
+    count: usize,
+    x_leading: BiPoly,
+    y_leading: BiPoly,
 }
 
 impl Model for Interp {
-    ghost use Rattle.kk_interp.specs.Interpolation.{Interpolation, IsKept};
+    ghost use Rattle.kk_interp.specs.Interpolation.{Interpolation};
+    ghost use Rattle.kk_interp.specs.State.{seen, IsKept};
+    ghost use Rattle.std.specs.Prelude.{◌≡◌, take, length};
 
     ghost Value = { Interpolation };
 
-    ghost view = { λ a. record {
+    ghost view = { λ a. seen (record {
       modulus = a.field;
       k = a.k;
-      points = a.points;
-      x_leading = a.pair.x_leading;
-      y_leading = a.pair.y_leading;
-    } };
-
-    ghost invariant = { λ a. IsKept (record {
-      modulus = a.field;
-      k = a.k;
-      points = a.points;
-      x_leading = a.pair.x_leading;
-      y_leading = a.pair.y_leading;
+      points = take a.count a.points;
+      count = a.count;
+      x_leading = a.x_leading;
+      y_leading = a.y_leading;
     }) };
+
+    ghost invariant = { λ a. (length a.points ≡ 128) × IsKept (record {
+      modulus = a.field;
+      k = a.k;
+      points = take a.count a.points;
+      count = a.count;
+      x_leading = a.x_leading;
+      y_leading = a.y_leading;
+    }) };
+}
+
+/// Whether the polynomial that is led by a term in x weighs no more than the one that is led by a term in y.
+fn x_is_least(x_leading: &BiPoly, y_leading: &BiPoly, k: u32) -> bool
+    requires { k ≤ 64 }
+    ensures { IsTrue result ↔ (length x_leading.now.qx < length y_leading.now.qy + k) }
+{
+    x_leading.qx.coeffs().len() < y_leading.qy.coeffs().len() + k as usize
 }
 
 impl Interp {
     ghost use Rattle.kk_interp.specs.BiPoly.{IsOfField, IsZeroAt, weight};
-    ghost use Rattle.kk_interp.specs.Interpolation.{Interpolates, least};
 
-    /// No points so far. The two polynomials are x and y.
+    /// No points so far. The first polynomials are x and y.
     pub fn new(field: Field, k: u32) -> Interp
         requires k_at_least { 1 ≤ k }
         requires k_at_most { k ≤ 64 }
         ensures field { result.modulus ≡ field }
         ensures k { result.k ≡ k }
-        ensures no_points { Interpolates result [] }
+        ensures no_points { result.points ≡ [] }
     {
-        // its modulus is irreducible, which the interpolation needs
-        let _ring = field.ring();
-        let pair = Pair {
+        let one = field.one();
+        Interp {
+            field,
+            k,
+            points: [(0, 0); MAX_POINTS],
+            count: 0,
             x_leading: BiPoly {
-                qx: LinPoly::from_slice(&[1]),
+                qx: LinPoly::from_slice(&[one]),
                 qy: LinPoly::from_slice(&[]),
             },
             y_leading: BiPoly {
                 qx: LinPoly::from_slice(&[]),
-                qy: LinPoly::from_slice(&[1]),
+                qy: LinPoly::from_slice(&[one]),
             },
-        };
-        Interp {
-            field,
-            k,
-            points: 0,
-            pair,
         }
     }
 
-    /// The point (x, y) too. The points and k together are at most 128.
-    pub fn point<L: Ledger>(&mut self, x: u64, y: u64, steps: &mut Steps<L>)
+    /// Gives the point (x, y) too, with the tables of the field. The points and k together are at most 128.
+    pub fn point<L: Ledger>(&mut self, field: &FieldTables, x: u64, y: u64, steps: &mut Steps<L>)
+        requires same_field { field.now ≡ self.old.modulus }
         requires x_below { x < 2 ^ self.old.modulus.degree }
         requires y_below { y < 2 ^ self.old.modulus.degree }
-        requires room { self.old.points + 1 + self.old.k ≤ 128 }
+        requires room { length self.old.points + 1 + self.old.k ≤ 128 }
         ensures field { self.new.modulus ≡ self.old.modulus }
         ensures k { self.new.k ≡ self.old.k }
-        ensures counts { self.new.points ≡ self.old.points + 1 }
-        ensures interpolates { (points : List (ℕ × ℕ)) → Interpolates self.old points → Interpolates self.new (points ++ (x, y) ∷ []) }
-        ensures cost { steps.new ≤ steps.old + 32 * (self.old.k + self.old.points + 1) }
+        ensures points { self.new.points ≡ self.old.points ++ (x, y) ∷ [] }
+        ensures cost { steps.new ≤ steps.old + 32 * (self.old.k + length self.old.points + 1) }
     {
-        let v = self.pair.x_leading.eval(&self.field, x, y, steps);
-        let w = self.pair.y_leading.eval(&self.field, x, y, steps);
-        self.pair.cancel(&self.field, self.k, v, w, steps);
-        self.points += 1;
+        let v = self.x_leading.eval(field, x, y, steps);
+        let w = self.y_leading.eval(field, x, y, steps);
+        self.points[self.count] = (x, y);
+        self.count += 1;
+        match (v, w) {
+            (0, 0) => {}
+            (_, 0) => self.x_leading = self.x_leading.raised(field, v, steps),
+            (0, _) => self.y_leading = self.y_leading.raised(field, w, steps),
+            (_, _) => {
+                let sum = self.x_leading.combined(field, w, &self.y_leading, v, steps);
+                if x_is_least(&self.x_leading, &self.y_leading, self.k) {
+                    self.x_leading = self.x_leading.raised(field, v, steps);
+                    self.y_leading = sum;
+                } else {
+                    self.y_leading = self.y_leading.raised(field, w, steps);
+                    self.x_leading = sum;
+                }
+            }
+        }
     }
 
     /// How many points were given.
     pub fn points(&self) -> u32
-        ensures { result ≡ self.now.points }
+        ensures { result ≡ length self.now.points }
     {
-        self.points
+        self.count as u32
     }
 
-    /// The polynomial of lesser weight: it isn't zero, is 0 at each point that was given, and its weight is at most half
-    /// of r + k - 1, rounded down, for r points.
+    /// A polynomial that isn't zero and is 0 at each point that was given. Its weight is at most half of r + k - 1, rounded
+    /// down, for r points.
     pub fn least(&self) -> BiPoly
-        ensures value { result ≡ least self.now }
-        ensures of_field { IsOfField self.now.modulus result }
+        ensures value { result ≡ self.now.least }
+        ensures of_field { IsOfField self.now.modulus result.qx result.qy }
         ensures not_zero { (result.qx ≢ []) ⊎ (result.qy ≢ []) }
-        ensures zero_at_points { (points : List (ℕ × ℕ)) → Interpolates self.now points → IsZeroAt self.now.modulus result points }
-        ensures weight_at_most { (points : List (ℕ × ℕ)) → Interpolates self.now points
-            → weight self.now.k result ≤ (length points + self.now.k - 1) / 2 }
+        ensures starts { (slice_index result.qx 0 ≢ 0) ⊎ (slice_index result.qy 0 ≢ 0) }
+        ensures zero_at_points { IsZeroAt self.now.modulus result.qx result.qy self.now.points }
+        ensures weight_at_most { weight self.now.k result.qx result.qy ≤ (length self.now.points + self.now.k - 1) / 2 }
     {
-        if self.pair.x_is_least(self.k) {
-            self.pair.x_leading.copy()
+        if x_is_least(&self.x_leading, &self.y_leading, self.k) {
+            self.x_leading.copy()
         } else {
-            self.pair.y_leading.copy()
+            self.y_leading.copy()
         }
     }
 
-    /// The weight of `least()`.
+    /// The weight of [`Interp::least`].
     pub fn weight(&self) -> u32
-        ensures { result ≡ weight self.now.k (least self.now) }
+        ensures { result ≡ weight self.now.k self.now.least.qx self.now.least.qy }
     {
-        if self.pair.x_is_least(self.k) {
-            self.pair.x_leading.qx.coeffs().len() as u32 - 1
+        if x_is_least(&self.x_leading, &self.y_leading, self.k) {
+            self.x_leading.qx.coeffs().len() as u32 - 1
         } else {
-            self.pair.y_leading.qy.coeffs().len() as u32 + self.k - 2
+            self.y_leading.qy.coeffs().len() as u32 + self.k - 2
         }
     }
 }

@@ -5,6 +5,7 @@ ghost use Rattle.kk_interp.specs.BiPoly.{IsZeroAt, weight};
 use crate::bi_poly::BiPoly;
 use crate::interp::Interp;
 use kk_field::{Field, Ring, Steps};
+use kk_tables::FieldTables;
 use std::marker::Brand;
 use std::sync::ledger::{Blank, Ledger};
 use std::test::Fail;
@@ -21,14 +22,15 @@ fn through_three_points<L: Ledger>(blank: Blank) -> Option<(u32, u32, u64)>
     }
     let field = Field::of(ring);
     let mut steps: Steps<L> = Steps::new(blank);
+    let tables = FieldTables::new(field);
     let mut interp = Interp::new(field, 1);
-    interp.point(1, 5, &mut steps);
-    interp.point(2, 1, &mut steps);
-    interp.point(4, 2, &mut steps);
+    interp.point(&tables, 1, 5, &mut steps);
+    interp.point(&tables, 2, 1, &mut steps);
+    interp.point(&tables, 4, 2, &mut steps);
     let q = interp.least();
-    let first = q.eval(&field, 1, 5, &mut steps);
-    let second = q.eval(&field, 2, 1, &mut steps);
-    let third = q.eval(&field, 4, 2, &mut steps);
+    let first = q.eval(&tables, 1, 5, &mut steps);
+    let second = q.eval(&tables, 2, 1, &mut steps);
+    let third = q.eval(&tables, 4, 2, &mut steps);
     Some((interp.points(), interp.weight(), first | second | third))
 }
 
@@ -42,7 +44,7 @@ fn a_polynomial_is_zero_at_three_points_of_a_line(rt: HostRuntime) -> Result<(),
     Ok(())
 }
 
-// The contract of a caller: a polynomial but 0 through both points, of weight at most half of k + 1, rounded down.
+// The contract of a caller: a polynomial except 0 through both points, of weight at most half of k + 1, rounded down.
 fn through_two_points<L: Ledger>(
     field: Field,
     k: u32,
@@ -55,12 +57,13 @@ fn through_two_points<L: Ledger>(
     requires first_below { (first.0 < 2 ^ field.degree) × (first.1 < 2 ^ field.degree) }
     requires second_below { (second.0 < 2 ^ field.degree) × (second.1 < 2 ^ field.degree) }
     ensures not_zero { (result.qx ≢ []) ⊎ (result.qy ≢ []) }
-    ensures zeros { IsZeroAt field result (first ∷ second ∷ []) }
-    ensures weight { weight k result ≤ (2 + k - 1) / 2 }
+    ensures zeros { IsZeroAt field result.qx result.qy (first ∷ second ∷ []) }
+    ensures weight { weight k result.qx result.qy ≤ (2 + k - 1) / 2 }
 {
+    let tables = FieldTables::new(field);
     let mut interp = Interp::new(field, k);
-    interp.point(first.0, first.1, steps);
-    interp.point(second.0, second.1, steps);
+    interp.point(&tables, first.0, first.1, steps);
+    interp.point(&tables, second.0, second.1, steps);
     interp.least()
 }
 

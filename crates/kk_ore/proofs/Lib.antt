@@ -5,3 +5,5 @@ pub mod Below
 pub mod Quotients
 pub mod Uniqueness
 pub mod Examples
+pub mod Exact
+pub mod Lengths

@@ -13,34 +13,34 @@ coefficient_of : (cs ds : List ℕ) → cs ≡ trimmed ds → (n : ℕ) → slic
 coefficient_of cs ds e n = ap (λ l. slice_index l n) e ∙ slice_index-trimmed ds n
 
 module _ (f : Modulus) (h : f.low < 2 ^ f.degree) where
-  pub left_quotient_from : (a b q r start quotient rest : List ℕ) (e : ℕ) → degree b ≡ Some e → SamePolynomial start a
-      → q ≡ trimmed quotient → r ≡ trimmed rest
-      → ((n : ℕ) → slice_index start n ≡ bit_xor (composed f (slice_index b) (slice_index quotient) n) (slice_index rest n))
-      → ((n : ℕ) → e ≤ n → slice_index rest n ≡ 0) → IsLeftQuotient f a b q r
-  left_quotient_from a b q r start quotient rest e b_degree same q_is r_is sum ends = record {
+  pub left_quotient_from : (a b q r start quotient remainder : List ℕ) (e : ℕ) → degree b ≡ Some e → SamePolynomial start a
+      → q ≡ trimmed quotient → r ≡ trimmed remainder
+      → ((n : ℕ) → slice_index start n ≡ bit_xor (composed f (slice_index b) (slice_index quotient) n) (slice_index remainder n))
+      → ((n : ℕ) → e ≤ n → slice_index remainder n ≡ 0) → IsLeftQuotient f a b q r
+  left_quotient_from a b q r start quotient remainder e b_degree same q_is r_is sum ends = record {
     sum = record {
       coefficients = λ n. sym (same.coefficients n) ∙ sum n
-          ∙ ap (bit_xor (composed f (slice_index b) (slice_index quotient) n)) (sym (coefficient_of r rest r_is n))
+          ∙ ap (bit_xor (composed f (slice_index b) (slice_index quotient) n)) (sym (coefficient_of r remainder r_is n))
           ∙ ap (λ x. bit_xor x (slice_index r n))
           (sym (slice_index-composition f h b q n
           ∙ composed-same f (slice_index b) (slice_index b) (slice_index q) (slice_index quotient) (λ i. refl) (coefficient_of q quotient q_is) n))
           ∙ sym (slice_index-sum_of (composition f b q) r n);
     };
-    rest = IsBelow-from r b e b_degree (λ n past. coefficient_of r rest r_is n ∙ ends n past);
+    remainder = IsBelow-from r b e b_degree (λ n past. coefficient_of r remainder r_is n ∙ ends n past);
   }
 
-  pub right_quotient_from : (a b q r start quotient rest : List ℕ) (e : ℕ) → degree b ≡ Some e → SamePolynomial start a
-      → q ≡ trimmed quotient → r ≡ trimmed rest
-      → ((n : ℕ) → slice_index start n ≡ bit_xor (composed f (slice_index quotient) (slice_index b) n) (slice_index rest n))
-      → ((n : ℕ) → e ≤ n → slice_index rest n ≡ 0) → IsRightQuotient f a b q r
-  right_quotient_from a b q r start quotient rest e b_degree same q_is r_is sum ends = record {
+  pub right_quotient_from : (a b q r start quotient remainder : List ℕ) (e : ℕ) → degree b ≡ Some e → SamePolynomial start a
+      → q ≡ trimmed quotient → r ≡ trimmed remainder
+      → ((n : ℕ) → slice_index start n ≡ bit_xor (composed f (slice_index quotient) (slice_index b) n) (slice_index remainder n))
+      → ((n : ℕ) → e ≤ n → slice_index remainder n ≡ 0) → IsRightQuotient f a b q r
+  right_quotient_from a b q r start quotient remainder e b_degree same q_is r_is sum ends = record {
     sum = record {
       coefficients = λ n. sym (same.coefficients n) ∙ sum n
-          ∙ ap (bit_xor (composed f (slice_index quotient) (slice_index b) n)) (sym (coefficient_of r rest r_is n))
+          ∙ ap (bit_xor (composed f (slice_index quotient) (slice_index b) n)) (sym (coefficient_of r remainder r_is n))
           ∙ ap (λ x. bit_xor x (slice_index r n))
           (sym (slice_index-composition f h q b n
           ∙ composed-same f (slice_index q) (slice_index quotient) (slice_index b) (slice_index b) (coefficient_of q quotient q_is) (λ j. refl) n))
           ∙ sym (slice_index-sum_of (composition f q b) r n);
     };
-    rest = IsBelow-from r b e b_degree (λ n past. coefficient_of r rest r_is n ∙ ends n past);
+    remainder = IsBelow-from r b e b_degree (λ n past. coefficient_of r remainder r_is n ∙ ends n past);
   }

@@ -1,4 +1,4 @@
--- One turn of a division: a term is added to the quotient, and its product with the divisor to the rest.
+-- One turn of a division: a term is added to the quotient, and its product with the divisor to the remainder.
 use Rattle.std.proofs.Common.{◌≡◌, ℕ, zero, suc, ◌+◌, ◌-◌, ◌*◌, ◌^◌, ◌<◌, ◌≤◌, List, bit_xor, sym, ap, ◌∙◌, subst, arith, inl, inr}
 use Rattle.std.specs.Prelude.{slice_index}
 use Rattle.std.proofs.Math.Nat.{mul-le-mul_left, zero-mul}
@@ -10,54 +10,54 @@ use Rattle.kk_field.specs.Field.{Modulus, field_product, frobenius}
 use Rattle.kk_linpoly.specs.LinPoly.{IsOver}
 use Rattle.kk_linpoly.proofs.Coefficients.{coefficient-lt, IsOver-from}
 
--- a is still the product and the rest
-pub sum_more : (a whole whole' rest rest' term : ℕ → ℕ) (s : ℕ) → ((n : ℕ) → a n ≡ bit_xor (whole n) (rest n))
+-- a is still the product and the remainder
+pub sum_more : (a whole whole' remainder remainder' term : ℕ → ℕ) (s : ℕ) → ((n : ℕ) → a n ≡ bit_xor (whole n) (remainder n))
     → ((n : ℕ) → n < s → whole' n ≡ whole n) → ((j : ℕ) → whole' (s + j) ≡ bit_xor (whole (s + j)) (term j))
-    → ((n : ℕ) → n < s → rest' n ≡ rest n) → ((j : ℕ) → rest' (s + j) ≡ bit_xor (rest (s + j)) (term j))
-    → (n : ℕ) → a n ≡ bit_xor (whole' n) (rest' n)
-sum_more a whole whole' rest rest' term s sum whole_before whole_more rest_before rest_more n =
+    → ((n : ℕ) → n < s → remainder' n ≡ remainder n) → ((j : ℕ) → remainder' (s + j) ≡ bit_xor (remainder (s + j)) (term j))
+    → (n : ℕ) → a n ≡ bit_xor (whole' n) (remainder' n)
+sum_more a whole whole' remainder remainder' term s sum whole_before whole_more remainder_before remainder_more n =
     elim (cases_lt n s) [
-      | inl before ↦ sum n ∙ sym (ap (λ x. bit_xor x (rest' n)) (whole_before n before) ∙ ap (bit_xor (whole n)) (rest_before n before))
+      | inl before ↦ sum n ∙ sym (ap (λ x. bit_xor x (remainder' n)) (whole_before n before) ∙ ap (bit_xor (whole n)) (remainder_before n before))
       | inr past ↦ let place : s + (n - s) ≡ n = omega arith in
-          subst (λ k. a k ≡ bit_xor (whole' k) (rest' k)) place (at (n - s))
+          subst (λ k. a k ≡ bit_xor (whole' k) (remainder' k)) place (at (n - s))
     ]
   where
-    at : (j : ℕ) → a (s + j) ≡ bit_xor (whole' (s + j)) (rest' (s + j))
+    at : (j : ℕ) → a (s + j) ≡ bit_xor (whole' (s + j)) (remainder' (s + j))
     at j =
         let w = whole (s + j) in
-        let r = rest (s + j) in
+        let r = remainder (s + j) in
         sum (s + j)
-        ∙ sym (ap (λ x. bit_xor x (rest' (s + j))) (whole_more j) ∙ ap (bit_xor (bit_xor w (term j))) (rest_more j)
+        ∙ sym (ap (λ x. bit_xor x (remainder' (s + j))) (whole_more j) ∙ ap (bit_xor (bit_xor w (term j))) (remainder_more j)
         ∙ xor_xor_swap w (term j) r (term j) ∙ ap (bit_xor (bit_xor w r)) (xor_self (term j)) ∙ xor_zero_r (bit_xor w r))
 
--- the rest ends one place earlier, where the last coefficient of the product, of k coefficients, was its own
-pub ends_more : (rest rest' term : ℕ → ℕ) (s k : ℕ) → 0 < k → ((n : ℕ) → s + 1 + k ≤ n + 1 → rest n ≡ 0)
-    → ((j : ℕ) → rest' (s + j) ≡ bit_xor (rest (s + j)) (term j)) → term (k - 1) ≡ rest (s + (k - 1))
-    → ((j : ℕ) → k ≤ j → term j ≡ 0) → (n : ℕ) → s + k ≤ n + 1 → rest' n ≡ 0
-ends_more rest rest' term s k some ends more leads none n past =
+-- the remainder ends one place earlier, where the last coefficient of the product, of k coefficients, was its own
+pub ends_more : (remainder remainder' term : ℕ → ℕ) (s k : ℕ) → 0 < k → ((n : ℕ) → s + 1 + k ≤ n + 1 → remainder n ≡ 0)
+    → ((j : ℕ) → remainder' (s + j) ≡ bit_xor (remainder (s + j)) (term j)) → term (k - 1) ≡ remainder (s + (k - 1))
+    → ((j : ℕ) → k ≤ j → term j ≡ 0) → (n : ℕ) → s + k ≤ n + 1 → remainder' n ≡ 0
+ends_more remainder remainder' term s k some ends more leads none n past =
     let place : s + (n - s) ≡ n = omega arith in
-    subst (λ i. rest' i ≡ 0) place (more (n - s) ∙ cancelled)
+    subst (λ i. remainder' i ≡ 0) place (more (n - s) ∙ cancelled)
   where
-    cancelled : bit_xor (rest (s + (n - s))) (term (n - s)) ≡ 0
+    cancelled : bit_xor (remainder (s + (n - s))) (term (n - s)) ≡ 0
     cancelled =
         elim (cases_lt (n - s) k) [
           | inl within ↦ let last : n - s ≡ k - 1 = omega arith in
-              ap (λ j. bit_xor (rest (s + j)) (term j)) last ∙ ap (bit_xor (rest (s + (k - 1)))) leads ∙ xor_self (rest (s + (k - 1)))
-          | inr beyond ↦ ap (bit_xor (rest (s + (n - s)))) (none (n - s) beyond) ∙ xor_zero_r (rest (s + (n - s)))
+              ap (λ j. bit_xor (remainder (s + j)) (term j)) last ∙ ap (bit_xor (remainder (s + (k - 1)))) leads ∙ xor_self (remainder (s + (k - 1)))
+          | inr beyond ↦ ap (bit_xor (remainder (s + (n - s)))) (none (n - s) beyond) ∙ xor_zero_r (remainder (s + (n - s)))
               ∙ ends (s + (n - s)) (omega arith)
         ]
 
-pub IsOver-more : (m : ℕ) (rest rest' : List ℕ) (term : ℕ → ℕ) (s : ℕ) → IsOver m rest → ((j : ℕ) → term j < 2 ^ m)
-    → ((n : ℕ) → n < s → slice_index rest' n ≡ slice_index rest n)
-    → ((j : ℕ) → slice_index rest' (s + j) ≡ bit_xor (slice_index rest (s + j)) (term j)) → IsOver m rest'
-IsOver-more m rest rest' term s over small before more =
-    IsOver-from m rest'
+pub IsOver-more : (m : ℕ) (remainder remainder' : List ℕ) (term : ℕ → ℕ) (s : ℕ) → IsOver m remainder → ((j : ℕ) → term j < 2 ^ m)
+    → ((n : ℕ) → n < s → slice_index remainder' n ≡ slice_index remainder n)
+    → ((j : ℕ) → slice_index remainder' (s + j) ≡ bit_xor (slice_index remainder (s + j)) (term j)) → IsOver m remainder'
+IsOver-more m remainder remainder' term s over small before more =
+    IsOver-from m remainder'
     (λ n. elim (cases_lt n s) [
-      | inl less ↦ subst (λ x. x < 2 ^ m) (sym (before n less)) (coefficient-lt m rest over n)
+      | inl less ↦ subst (λ x. x < 2 ^ m) (sym (before n less)) (coefficient-lt m remainder over n)
       | inr past ↦ let place : s + (n - s) ≡ n = omega arith in
-          subst (λ k. slice_index rest' k < 2 ^ m) place
+          subst (λ k. slice_index remainder' k < 2 ^ m) place
           (subst (λ x. x < 2 ^ m) (sym (more (n - s)))
-          (xor_lt m (slice_index rest (s + (n - s))) (term (n - s)) (coefficient-lt m rest over (s + (n - s))) (small (n - s))))
+          (xor_lt m (slice_index remainder (s + (n - s))) (term (n - s)) (coefficient-lt m remainder over (s + (n - s))) (small (n - s))))
     ])
 
 -- ---- steps

@@ -1,4 +1,4 @@
--- Over a field a division has one quotient and one rest: coefficient e + t of the product of the divisor, of degree e, and
+-- Over a field a division has one quotient and one remainder: coefficient e + t of the product of the divisor, of degree e, and
 -- the quotient tells coefficient t of the quotient by those above it.
 use Rattle.std.proofs.Common.{◌≡◌, ◌≢◌, ℕ, zero, suc, ◌+◌, ◌-◌, ◌^◌, ◌<◌, ◌≤◌, List, Some, length, bit_xor, refl, sym, ap, ◌∙◌, subst, arith, inl, inr}
 use Rattle.std.specs.Prelude.{slice_index, IsSome}
@@ -37,14 +37,14 @@ from_top q q' (suc n) above step t =
     ])
     step t
 
--- the same sum and the same product leave the same rest
-same_rest : (a whole whole' rest rest' : ℕ) → a ≡ bit_xor whole rest → a ≡ bit_xor whole' rest' → whole ≡ whole' → rest ≡ rest'
-same_rest a whole whole' rest rest' sum sum' same =
-    sym (xor_cancel whole rest) ∙ ap (bit_xor whole) (sym sum ∙ sum') ∙ ap (λ x. bit_xor x (bit_xor whole' rest')) same ∙ xor_cancel whole' rest'
+-- the same sum and the same product leave the same remainder
+same_remainder : (a whole whole' remainder remainder' : ℕ) → a ≡ bit_xor whole remainder → a ≡ bit_xor whole' remainder' → whole ≡ whole' → remainder ≡ remainder'
+same_remainder a whole whole' remainder remainder' sum sum' same =
+    sym (xor_cancel whole remainder) ∙ ap (bit_xor whole) (sym sum ∙ sum') ∙ ap (λ x. bit_xor x (bit_xor whole' remainder')) same ∙ xor_cancel whole' remainder'
 
--- nothing is left of a sum whose rest is 0
-whole_of : (a whole rest : ℕ) → a ≡ bit_xor whole rest → rest ≡ 0 → whole ≡ a
-whole_of a whole rest sum none = sym (xor_zero_r whole) ∙ ap (bit_xor whole) (sym none) ∙ sym sum
+-- nothing is left of a sum whose remainder is 0
+whole_of : (a whole remainder : ℕ) → a ≡ bit_xor whole remainder → remainder ≡ 0 → whole ≡ a
+whole_of a whole remainder sum none = sym (xor_zero_r whole) ∙ ap (bit_xor whole) (sym none) ∙ sym sum
 
 -- past both ends there is nothing
 same_past : (q q' : List ℕ) (i : ℕ) → length q + length q' ≤ i → slice_index q i ≡ slice_index q' i
@@ -133,9 +133,9 @@ module _ (f : Modulus) (h : f.low < 2 ^ f.degree) (irreducible : IsIrreducible (
   left_quotient_unique a b q r q' r' b_over some q_over q'_over x x' =
       let e : (e : ℕ) × (degree b ≡ Some e) = degree_of b some in
       let whole = λ (t : ℕ). whole_of (slice_index a (e.0 + t)) (composed f (slice_index b) (slice_index q) (e.0 + t)) (slice_index r (e.0 + t))
-      (left_sum a b q r x (e.0 + t)) (coefficient-below r b e.0 x.rest e.1 (e.0 + t) (omega arith)) in
+      (left_sum a b q r x (e.0 + t)) (coefficient-below r b e.0 x.remainder e.1 (e.0 + t) (omega arith)) in
       let whole' = λ (t : ℕ). whole_of (slice_index a (e.0 + t)) (composed f (slice_index b) (slice_index q') (e.0 + t)) (slice_index r' (e.0 + t))
-      (left_sum a b q' r' x' (e.0 + t)) (coefficient-below r' b e.0 x'.rest e.1 (e.0 + t) (omega arith)) in
+      (left_sum a b q' r' x' (e.0 + t)) (coefficient-below r' b e.0 x'.remainder e.1 (e.0 + t) (omega arith)) in
       let same : (t : ℕ) → slice_index q t ≡ slice_index q' t =
       from_top (slice_index q) (slice_index q') (length q + length q') (same_past q q')
       (λ t above. left_same_at (slice_index b) (slice_index q) (slice_index q') e.0 t (coefficient-lt f.degree b b_over e.0)
@@ -143,7 +143,7 @@ module _ (f : Modulus) (h : f.low < 2 ^ f.degree) (irreducible : IsIrreducible (
       (coefficient-lt f.degree q' q'_over t) above (whole t ∙ sym (whole' t))) in (
         record { coefficients = same },
         record {
-          coefficients = λ n. same_rest (slice_index a n) (composed f (slice_index b) (slice_index q) n)
+          coefficients = λ n. same_remainder (slice_index a n) (composed f (slice_index b) (slice_index q) n)
               (composed f (slice_index b) (slice_index q') n) (slice_index r n) (slice_index r' n) (left_sum a b q r x n) (left_sum a b q' r' x' n)
               (composed-same f (slice_index b) (slice_index b) (slice_index q) (slice_index q') (λ i. refl) same n);
         },
@@ -154,9 +154,9 @@ module _ (f : Modulus) (h : f.low < 2 ^ f.degree) (irreducible : IsIrreducible (
   right_quotient_unique a b q r q' r' b_over some q_over q'_over x x' =
       let e : (e : ℕ) × (degree b ≡ Some e) = degree_of b some in
       let whole = λ (t : ℕ). whole_of (slice_index a (e.0 + t)) (composed f (slice_index q) (slice_index b) (e.0 + t)) (slice_index r (e.0 + t))
-      (right_sum a b q r x (e.0 + t)) (coefficient-below r b e.0 x.rest e.1 (e.0 + t) (omega arith)) in
+      (right_sum a b q r x (e.0 + t)) (coefficient-below r b e.0 x.remainder e.1 (e.0 + t) (omega arith)) in
       let whole' = λ (t : ℕ). whole_of (slice_index a (e.0 + t)) (composed f (slice_index q') (slice_index b) (e.0 + t)) (slice_index r' (e.0 + t))
-      (right_sum a b q' r' x' (e.0 + t)) (coefficient-below r' b e.0 x'.rest e.1 (e.0 + t) (omega arith)) in
+      (right_sum a b q' r' x' (e.0 + t)) (coefficient-below r' b e.0 x'.remainder e.1 (e.0 + t) (omega arith)) in
       let same : (t : ℕ) → slice_index q t ≡ slice_index q' t =
       from_top (slice_index q) (slice_index q') (length q + length q') (same_past q q')
       (λ t above. right_same_at (slice_index b) (slice_index q) (slice_index q') e.0 t (coefficient-lt f.degree b b_over e.0)
@@ -164,7 +164,7 @@ module _ (f : Modulus) (h : f.low < 2 ^ f.degree) (irreducible : IsIrreducible (
       (coefficient-lt f.degree q' q'_over t) above (whole t ∙ sym (whole' t))) in (
         record { coefficients = same },
         record {
-          coefficients = λ n. same_rest (slice_index a n) (composed f (slice_index q) (slice_index b) n)
+          coefficients = λ n. same_remainder (slice_index a n) (composed f (slice_index q) (slice_index b) n)
               (composed f (slice_index q') (slice_index b) n) (slice_index r n) (slice_index r' n) (right_sum a b q r x n) (right_sum a b q' r' x' n)
               (composed-same f (slice_index q) (slice_index q') (slice_index b) (slice_index b) same (λ j. refl) n);
         },

@@ -15,23 +15,23 @@ unfolding sum_of composition xor_sum frobenius field_product product product_bel
 right_by_square = refl
 
 -- 6·X + 7·X^2 + X^4 by X + X^2: on the left 2·X is left, and on the right nothing
-pub left_with_rest : sum_of (composition gf8 (1 ∷ 1 ∷ []) (4 ∷ 1 ∷ [])) (2 ∷ []) ≡ 6 ∷ 7 ∷ 1 ∷ []
+pub left_with_remainder : sum_of (composition gf8 (1 ∷ 1 ∷ []) (4 ∷ 1 ∷ [])) (2 ∷ []) ≡ 6 ∷ 7 ∷ 1 ∷ []
 unfolding sum_of composition xor_sum frobenius field_product product product_below remainder remainder_below
-left_with_rest = refl
+left_with_remainder = refl
 
-pub right_without_rest : sum_of (composition gf8 (6 ∷ 1 ∷ []) (1 ∷ 1 ∷ [])) [] ≡ 6 ∷ 7 ∷ 1 ∷ []
+pub right_without_remainder : sum_of (composition gf8 (6 ∷ 1 ∷ []) (1 ∷ 1 ∷ [])) [] ≡ 6 ∷ 7 ∷ 1 ∷ []
 unfolding sum_of composition xor_sum frobenius field_product product product_below remainder remainder_below
-right_without_rest = refl
+right_without_remainder = refl
 
--- the rests are zero, or of a smaller degree than the divisor
+-- the remainders are zero, or of a smaller degree than the divisor
 pub degree_of_divisor : degree (1 ∷ 1 ∷ []) ≡ Some 1
 unfolding degree degree_with_first
 degree_of_divisor = refl
 
-pub degree_of_rest : degree (2 ∷ []) ≡ Some 0
+pub degree_of_remainder : degree (2 ∷ []) ≡ Some 0
 unfolding degree degree_with_first
-degree_of_rest = refl
+degree_of_remainder = refl
 
-pub degree_of_no_rest : degree [] ≡ None
+pub degree_of_no_remainder : degree [] ≡ None
 unfolding degree
-degree_of_no_rest = refl
+degree_of_no_remainder = refl

@@ -5,7 +5,7 @@ use Rattle.kk_field.specs.Laws.{IsFieldModulus}
 use Rattle.kk_linpoly.specs.LinPoly.{SamePolynomial, IsOver, degree}
 use Rattle.kk_ore.specs.Division.{IsLeftQuotient, IsRightQuotient}
 
--- two polynomials of the field are the left quotient and rest only if they are the same as any other such two
+-- two polynomials of the field are the left quotient and remainder only if they are the same as any other such two
 abbrev pub LeftQuotientIsUnique : Type 0
 LeftQuotientIsUnique =
     (f : Modulus) → IsFieldModulus f → (a b q r q' r' : List ℕ) → IsOver f.degree b → IsSome (degree b)

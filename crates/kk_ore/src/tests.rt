@@ -3,15 +3,16 @@ ghost use Rattle.std.specs.Prelude.{◌≡◌, ◌<◌, ◌≤◌, All, IfSome, 
 ghost use Rattle.kk_linpoly.specs.LinPoly.{IsOver};
 ghost use Rattle.kk_ore.specs.Division.{IsBelow};
 
-use crate::{div_left, div_right};
+use crate::{div_left, div_right, exact_left};
 use kk_field::{Field, Ring, Steps};
 use kk_linpoly::LinPoly;
+use kk_tables::FieldTables;
 use std::marker::Brand;
 use std::sync::ledger::{Blank, Ledger};
 
 // What a division on the right leaves of `a`, or `None` where `b` is zero.
-fn right_rest<L: Ledger>(
-    field: &Field,
+fn right_remainder<L: Ledger>(
+    field: &FieldTables,
     a: &LinPoly,
     b: &LinPoly,
     steps: &mut Steps<L>,
@@ -23,8 +24,8 @@ fn right_rest<L: Ledger>(
     if b.degree().is_none() {
         return None;
     }
-    let (_, rest) = div_right(field, a, b, steps);
-    Some(rest)
+    let (_, remainder) = div_right(field, a, b, steps);
+    Some(remainder)
 }
 
 // q and r of a division on the left and of one on the right; the second polynomial isn't zero.
@@ -45,7 +46,7 @@ fn both<L: Ledger>(
     if !ring.is_irreducible() {
         return None;
     }
-    let field = Field::of(ring);
+    let field = FieldTables::new(Field::of(ring));
     let mut steps: Steps<L> = Steps::new(blank);
     let (a, b) = (LinPoly::from_slice(a), LinPoly::from_slice(b));
     if b.degree().is_none() {
@@ -53,7 +54,7 @@ fn both<L: Ledger>(
     }
     let (q, r) = div_left(&field, &a, &b, &mut steps);
     let (p, _) = div_right(&field, &a, &b, &mut steps);
-    let s = right_rest(&field, &a, &b, &mut steps)?;
+    let s = right_remainder(&field, &a, &b, &mut steps)?;
     Some((q, r, p, s))
 }
 
@@ -68,11 +69,36 @@ fn a_monomial_by_the_square(rt: HostRuntime) {
 }
 
 #[test]
-fn a_rest_on_the_left_alone(rt: HostRuntime) {
+fn a_remainder_on_the_left_alone(rt: HostRuntime) {
     let parts = both::<Brand>(Blank::new(1), &[6, 7, 1], &[1, 1]);
     assert!(rt; parts.is_some());
     if let Some((q, r, p, s)) = parts {
         assert!(rt; q.coeffs() == [4, 1].as_slice() && r.coeffs() == [2].as_slice());
         assert!(rt; p.coeffs() == [6, 1].as_slice() && s.coeffs() == [].as_slice());
     }
+}
+
+// The polynomial u of at most two coefficients for which 4·X + 7·X^2 + X^4 is (X + X^2)∘u.
+fn exact<L: Ledger>(blank: Blank) -> Option<LinPoly>
+    requires name { blank.name ≡ L.name }
+    requires parts { blank.parts ≡ L.parts }
+    requires some { 0 < blank.parts }
+{
+    let ring = Ring::new(3, 3);
+    if !ring.is_irreducible() {
+        return None;
+    }
+    let field = FieldTables::new(Field::of(ring));
+    let mut steps: Steps<L> = Steps::new(blank);
+    let (a, b) = (
+        LinPoly::from_slice(&[4, 7, 1]),
+        LinPoly::from_slice(&[1, 1]),
+    );
+    Some(exact_left(&field, &a, &b, 2, &mut steps))
+}
+
+#[test]
+fn an_exact_quotient_from_the_low_end(rt: HostRuntime) {
+    let u = exact::<Brand>(Blank::new(1));
+    assert!(rt; u.is_some_and(|u| u.coeffs() == [4, 1].as_slice()));
 }

@@ -12,7 +12,7 @@ unfolding frobenius
 loop-j-init g c = record {
   power_is = refl;
   power_below = c.requires.c_below;
-  adds = adds_none c.args.rest.now c.args.s _;
+  adds = adds_none c.args.remainder.now c.args.s _;
   counted = omega arith;
 }
 
@@ -26,8 +26,8 @@ loop-j-preserved g c =
     record {
       power_is = c.square-power.ensures.value ∙ ap (λ x. field_product f x x) inv.power_is ∙ ap (λ k. frobenius f k c.args.c) (sym (add-one j));
       power_below = c.square-power.ensures.below;
-      adds = adds_more c.args.rest.now c.loop-j.rest c.args.s j c.mul.result (λ j. field_product f (slice_index b j) (frobenius f j c.args.c))
-          (omega (arith, c.told-rest, c.loop-j-test.true, c.requires.fits)) inv.adds
+      adds = adds_more c.args.remainder.now c.loop-j.remainder c.args.s j c.mul.result (λ j. field_product f (slice_index b j) (frobenius f j c.args.c))
+          (omega (arith, c.told-remainder, c.loop-j-test.true, c.requires.fits)) inv.adds
           (c.mul.ensures.value ∙ ap (field_product f (slice_index b j)) inv.power_is);
       counted = omega (arith, inv.counted, c.mul.ensures.cost, c.square-power.ensures.cost);
     }
@@ -36,6 +36,6 @@ pub returns-clause-added : goal.returns-clause-added
 returns-clause-added g c =
     let f = c.args.ring.now in
     let b = c.args.b.now in
-    adds_all c.args.rest.now c.loop-j.rest c.args.s c.loop-j.j (λ j. field_product f (slice_index b j) (frobenius f j c.args.c)) c.loop-j.invariant.adds
+    adds_all c.args.remainder.now c.loop-j.remainder c.args.s c.loop-j.j (λ j. field_product f (slice_index b j) (frobenius f j c.args.c)) c.loop-j.invariant.adds
     (λ k past. ap (λ x. field_product f x (frobenius f k c.args.c)) (get_or_past b k 0 (omega (arith, c.loop-j-test.false)))
     ∙ zero-field_product f c.requires.modulus.low_below (frobenius f k c.args.c))

@@ -8,6 +8,6 @@ abbrev pub invariant-loop-j : goal.invariant-loop-j
 invariant-loop-j g l = record {
   power_is : l.power ≡ frobenius l.ring l.j l.c;
   power_below : l.power < 2 ^ l.ring.degree;
-  adds : AddsTerms l.fn.rest l.rest l.s l.j (λ j. field_product l.ring (slice_index l.b j) (frobenius l.ring j l.c));
+  adds : AddsTerms l.fn.remainder l.remainder l.s l.j (λ j. field_product l.ring (slice_index l.b j) (frobenius l.ring j l.c));
   counted : l.steps ≤ l.fn.steps + 2 * l.j;
 }

@@ -14,11 +14,11 @@ use Rattle.kk_ore.proofs.Turns.{sum_more, ends_more, IsOver-more, left_leads, tu
 use Rattle.kk_ore.proofs.left.cancel.Goals as goal
 
 -- no term so far
-sum_none : (f : Modulus) → f.low < 2 ^ f.degree → (b rest : List ℕ) (n : ℕ)
-    → slice_index rest n ≡ bit_xor (composed f (slice_index b) (slice_index (replicate 128 0)) n) (slice_index rest n)
-sum_none f low b rest n =
-    sym (ap (λ x. bit_xor x (slice_index rest n)) (composed-none_right f low (slice_index b) (slice_index (replicate 128 0)) (slice_index-zeros 128) n)
-    ∙ xor_zero_l (slice_index rest n))
+sum_none : (f : Modulus) → f.low < 2 ^ f.degree → (b remainder : List ℕ) (n : ℕ)
+    → slice_index remainder n ≡ bit_xor (composed f (slice_index b) (slice_index (replicate 128 0)) n) (slice_index remainder n)
+sum_none f low b remainder n =
+    sym (ap (λ x. bit_xor x (slice_index remainder n)) (composed-none_right f low (slice_index b) (slice_index (replicate 128 0)) (slice_index-zeros 128) n)
+    ∙ xor_zero_l (slice_index remainder n))
 
 IsOver-zeros : (m : ℕ) → IsOver m (replicate 128 0)
 IsOver-zeros m = IsOver-from m (replicate 128 0) (λ n. subst (λ x. x < 2 ^ m) (sym (slice_index-zeros 128 n)) (pow_pos m))
@@ -26,29 +26,29 @@ IsOver-zeros m = IsOver-from m (replicate 128 0) (λ n. subst (λ x. x < 2 ^ m) 
 pub returns-then-places-eq0-clause-sum : goal.returns-then-places-eq0-clause-sum
 returns-then-places-eq0-clause-sum g c =
     sum_none c.args.field.now (subst (λ f. f.low < 2 ^ f.degree) c.ring-ring.ensures.value c.ring-ring.ensures.irreducible.modulus.low_below)
-    c.args.b.now c.args.rest.now
+    c.args.b.now c.args.remainder.now
 
 pub returns-then-places-eq0-clause-quotient_of_field : goal.returns-then-places-eq0-clause-quotient_of_field
 returns-then-places-eq0-clause-quotient_of_field g c = IsOver-zeros c.args.field.now.degree
 
 pub loop-s-init : goal.loop-s-init
 loop-s-init g c =
-    let f = c.ring-ring.result in
+    let f = c.ring-ring.result.now in
     let low = c.ring-ring.ensures.irreducible.modulus.low_below in
     let same = c.ring-ring.ensures.value in
     record {
-      sum_is = sum_none f low c.args.b.now c.args.rest.now;
+      sum_is = sum_none f low c.args.b.now c.args.remainder.now;
       free = λ n less. slice_index-zeros 128 n;
       ends = c.requires.ends;
       quotient_over = IsOver-zeros f.degree;
-      rest_over = subst (λ f. IsOver f.degree c.args.rest.now) (sym same) c.requires.rest_of_field;
+      remainder_over = subst (λ f. IsOver f.degree c.args.remainder.now) (sym same) c.requires.remainder_of_field;
       long = refl;
       counted = omega (arith, c.inverse_of-inverse.ensures.cost, ap (λ f. f.degree) same);
     }
 
 pub loop-s-preserved : goal.loop-s-preserved
 loop-s-preserved g c =
-    let f = c.ring-ring.result in
+    let f = c.ring-ring.result.now in
     let low = c.ring-ring.ensures.irreducible.modulus.low_below in
     let same = c.ring-ring.ensures.value in
     let inv = c.loop-s.invariant in
@@ -58,9 +58,9 @@ loop-s-preserved g c =
     let x = c.root2-c.result in
     let q = c.loop-s.quotient in
     let q' = set q s x in
-    let rest = c.loop-s.rest in
-    let rest' = c.add_term.new.rest in
-    let lead = slice_index rest (s + (k - 1)) in
+    let remainder = c.loop-s.remainder in
+    let remainder' = c.add_term.new.remainder in
+    let lead = slice_index remainder (s + (k - 1)) in
     let term = λ (j : ℕ). field_product f (slice_index b j) (frobenius f j x) in
     let others = λ (i : ℕ) (apart : i ≢ s). get_or-set_other q s i x 0 apart in
     let here : slice_index q' s ≡ x = get_or-set_same q s x 0 (omega (arith, inv.long, c.loop-s.auto.s, c.loop-s-test.true, c.requires.fits, c.requires.some)) in
@@ -70,21 +70,21 @@ loop-s-preserved g c =
     subst (λ f. field_product f (slice_index b (k - 1)) c.inverse_of-inverse.result ≡ 1) (sym same) c.inverse_of-inverse.ensures.product_is_one in
     let leads : term (k - 1) ≡ lead =
     left_leads f low (slice_index b (k - 1)) c.inverse_of-inverse.result lead x c.mul-ratio.result (k - 1)
-    (coefficient-lt f.degree rest inv.rest_over (s + (k - 1))) one c.mul-ratio.ensures.value
+    (coefficient-lt f.degree remainder inv.remainder_over (s + (k - 1))) one c.mul-ratio.ensures.value
     (subst (λ f. frobenius f (k - 1) x ≡ c.mul-ratio.result) (sym same) c.root2-c.ensures.root) in
     record {
-      sum_is = sum_more (slice_index c.args.rest.now) (composed f (slice_index b) (slice_index q)) (composed f (slice_index b) (slice_index q'))
-          (slice_index rest) (slice_index rest') term s inv.sum_is
+      sum_is = sum_more (slice_index c.args.remainder.now) (composed f (slice_index b) (slice_index q)) (composed f (slice_index b) (slice_index q'))
+          (slice_index remainder) (slice_index remainder') term s inv.sum_is
           (λ n before. composed-term_right_before f low (slice_index b) (slice_index q) (slice_index q') s n others before)
           (λ j. composed-term_right f low (slice_index b) (slice_index q) (slice_index q') s j others free
           ∙ ap (λ y. bit_xor (composed f (slice_index b) (slice_index q) (s + j)) (field_product f (slice_index b j) (frobenius f j y))) here)
           c.add_term.ensures.before c.add_term.ensures.added;
       free = λ n less. others n (λ e. omega (arith, e, less)) ∙ inv.free n (omega (arith, less));
-      ends = ends_more (slice_index rest) (slice_index rest') term s k c.requires.some (λ n past. inv.ends n (omega (arith, past, c.loop-s-test.true)))
+      ends = ends_more (slice_index remainder) (slice_index remainder') term s k c.requires.some (λ n past. inv.ends n (omega (arith, past, c.loop-s-test.true)))
           c.add_term.ensures.added leads
           (λ j past. ap (λ y. field_product f y (frobenius f j x)) (get_or_past b j 0 past) ∙ zero-field_product f low (frobenius f j x));
       quotient_over = All-set (λ c. c < 2 ^ f.degree) q s x below inv.quotient_over;
-      rest_over = IsOver-more f.degree rest rest' term s inv.rest_over (λ j. field_product-below f low (slice_index b j) (frobenius f j x))
+      remainder_over = IsOver-more f.degree remainder remainder' term s inv.remainder_over (λ j. field_product-below f low (slice_index b j) (frobenius f j x))
           c.add_term.ensures.before c.add_term.ensures.added;
       long = length-set q s x ∙ inv.long;
       counted = omega (arith, inv.counted, c.mul-ratio.ensures.cost, c.root2-c.ensures.cost, c.add_term.ensures.cost, ap (λ f. f.degree) same, turns_split c.loop-s.s (f.degree + 1 + 2 * k) c.loop-s-test.true);

@@ -6,11 +6,11 @@ use Rattle.kk_ore.proofs.left.cancel.Given as goal
 -- the places from s on are done
 abbrev pub invariant-loop-s : goal.invariant-loop-s
 invariant-loop-s g l = record {
-  sum_is : (n : ℕ) → slice_index l.fn.rest n ≡ bit_xor (composed l.ring (slice_index l.b) (slice_index l.quotient) n) (slice_index l.rest n);
+  sum_is : (n : ℕ) → slice_index l.fn.remainder n ≡ bit_xor (composed l.ring (slice_index l.b) (slice_index l.quotient) n) (slice_index l.remainder n);
   free : (n : ℕ) → n < l.s → slice_index l.quotient n ≡ 0;
-  ends : (n : ℕ) → l.s + length l.b ≤ n + 1 → slice_index l.rest n ≡ 0;
+  ends : (n : ℕ) → l.s + length l.b ≤ n + 1 → slice_index l.remainder n ≡ 0;
   quotient_over : IsOver l.ring.degree l.quotient;
-  rest_over : IsOver l.ring.degree l.rest;
+  remainder_over : IsOver l.ring.degree l.remainder;
   long : length l.quotient ≡ 128;
   counted : l.steps + l.s * (l.ring.degree + 1 + 2 * length l.b) ≤ l.fn.steps + 2 * l.ring.degree + l.places * (l.ring.degree + 1 + 2 * length l.b);
 }

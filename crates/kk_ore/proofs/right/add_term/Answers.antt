@@ -8,7 +8,7 @@ use Rattle.kk_ore.proofs.right.add_term.Goals as goal
 
 pub loop-j-init : goal.loop-j-init
 loop-j-init g c = record {
-  adds = adds_none c.args.rest.now c.args.s _;
+  adds = adds_none c.args.remainder.now c.args.s _;
   counted = omega arith;
 }
 
@@ -19,8 +19,8 @@ loop-j-preserved g c =
     let j = c.loop-j.j in
     let inv = c.loop-j.invariant in
     record {
-      adds = adds_more c.args.rest.now c.loop-j.rest c.args.s j c.mul.result (λ j. field_product f c.args.c (frobenius f c.args.s (slice_index b j)))
-          (omega (arith, c.told-rest, c.loop-j-test.true, c.requires.fits)) inv.adds
+      adds = adds_more c.args.remainder.now c.loop-j.remainder c.args.s j c.mul.result (λ j. field_product f c.args.c (frobenius f c.args.s (slice_index b j)))
+          (omega (arith, c.told-remainder, c.loop-j-test.true, c.requires.fits)) inv.adds
           (c.mul.ensures.value ∙ ap (field_product f c.args.c) c.pow2-power.ensures.value);
       counted = omega (arith, inv.counted, c.mul.ensures.cost, c.pow2-power.ensures.cost);
     }
@@ -29,6 +29,6 @@ pub returns-clause-added : goal.returns-clause-added
 returns-clause-added g c =
     let f = c.args.ring.now in
     let b = c.args.b.now in
-    adds_all c.args.rest.now c.loop-j.rest c.args.s c.loop-j.j (λ j. field_product f c.args.c (frobenius f c.args.s (slice_index b j))) c.loop-j.invariant.adds
+    adds_all c.args.remainder.now c.loop-j.remainder c.args.s c.loop-j.j (λ j. field_product f c.args.c (frobenius f c.args.s (slice_index b j))) c.loop-j.invariant.adds
     (λ k past. ap (λ x. field_product f c.args.c (frobenius f c.args.s x)) (get_or_past b k 0 (omega (arith, c.loop-j-test.false)))
     ∙ ap (field_product f c.args.c) (frobenius-zero f c.requires.modulus.low_below c.args.s) ∙ field_product-zero f c.requires.modulus.low_below c.args.c)

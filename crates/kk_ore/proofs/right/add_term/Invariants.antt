@@ -6,6 +6,6 @@ use Rattle.kk_ore.proofs.right.add_term.Given as goal
 
 abbrev pub invariant-loop-j : goal.invariant-loop-j
 invariant-loop-j g l = record {
-  adds : AddsTerms l.fn.rest l.rest l.s l.j (λ j. field_product l.ring l.c (frobenius l.ring l.s (slice_index l.b j)));
+  adds : AddsTerms l.fn.remainder l.remainder l.s l.j (λ j. field_product l.ring l.c (frobenius l.ring l.s (slice_index l.b j)));
   counted : l.steps ≤ l.fn.steps + l.j * (l.s + 1);
 }

@@ -15,11 +15,11 @@ use Rattle.kk_ore.proofs.Turns.{sum_more, ends_more, IsOver-more, right_leads, t
 use Rattle.kk_ore.proofs.right.cancel.Goals as goal
 
 -- no term so far
-sum_none : (f : Modulus) → f.low < 2 ^ f.degree → (b rest : List ℕ) (n : ℕ)
-    → slice_index rest n ≡ bit_xor (composed f (slice_index (replicate 128 0)) (slice_index b) n) (slice_index rest n)
-sum_none f low b rest n =
-    sym (ap (λ x. bit_xor x (slice_index rest n)) (composed-none_left f low (slice_index (replicate 128 0)) (slice_index b) (slice_index-zeros 128) n)
-    ∙ xor_zero_l (slice_index rest n))
+sum_none : (f : Modulus) → f.low < 2 ^ f.degree → (b remainder : List ℕ) (n : ℕ)
+    → slice_index remainder n ≡ bit_xor (composed f (slice_index (replicate 128 0)) (slice_index b) n) (slice_index remainder n)
+sum_none f low b remainder n =
+    sym (ap (λ x. bit_xor x (slice_index remainder n)) (composed-none_left f low (slice_index (replicate 128 0)) (slice_index b) (slice_index-zeros 128) n)
+    ∙ xor_zero_l (slice_index remainder n))
 
 IsOver-zeros : (m : ℕ) → IsOver m (replicate 128 0)
 IsOver-zeros m = IsOver-from m (replicate 128 0) (λ n. subst (λ x. x < 2 ^ m) (sym (slice_index-zeros 128 n)) (pow_pos m))
@@ -27,29 +27,29 @@ IsOver-zeros m = IsOver-from m (replicate 128 0) (λ n. subst (λ x. x < 2 ^ m) 
 pub returns-then-places-eq0-clause-sum : goal.returns-then-places-eq0-clause-sum
 returns-then-places-eq0-clause-sum g c =
     sum_none c.args.field.now (subst (λ f. f.low < 2 ^ f.degree) c.ring-ring.ensures.value c.ring-ring.ensures.irreducible.modulus.low_below)
-    c.args.b.now c.args.rest.now
+    c.args.b.now c.args.remainder.now
 
 pub returns-then-places-eq0-clause-quotient_of_field : goal.returns-then-places-eq0-clause-quotient_of_field
 returns-then-places-eq0-clause-quotient_of_field g c = IsOver-zeros c.args.field.now.degree
 
 pub loop-s-init : goal.loop-s-init
 loop-s-init g c =
-    let f = c.ring-ring.result in
+    let f = c.ring-ring.result.now in
     let low = c.ring-ring.ensures.irreducible.modulus.low_below in
     let same = c.ring-ring.ensures.value in
     record {
-      sum_is = sum_none f low c.args.b.now c.args.rest.now;
+      sum_is = sum_none f low c.args.b.now c.args.remainder.now;
       free = λ n less. slice_index-zeros 128 n;
       ends = c.requires.ends;
       quotient_over = IsOver-zeros f.degree;
-      rest_over = subst (λ f. IsOver f.degree c.args.rest.now) (sym same) c.requires.rest_of_field;
+      remainder_over = subst (λ f. IsOver f.degree c.args.remainder.now) (sym same) c.requires.remainder_of_field;
       long = refl;
       counted = omega (arith, c.inverse_of-inverse.ensures.cost, ap (λ f. f.degree) same);
     }
 
 pub loop-s-preserved : goal.loop-s-preserved
 loop-s-preserved g c =
-    let f = c.ring-ring.result in
+    let f = c.ring-ring.result.now in
     let low = c.ring-ring.ensures.irreducible.modulus.low_below in
     let same = c.ring-ring.ensures.value in
     let inv = c.loop-s.invariant in
@@ -59,9 +59,9 @@ loop-s-preserved g c =
     let x = c.mul-c.result in
     let q = c.loop-s.quotient in
     let q' = set q s x in
-    let rest = c.loop-s.rest in
-    let rest' = c.add_term.new.rest in
-    let lead = slice_index rest (s + (k - 1)) in
+    let remainder = c.loop-s.remainder in
+    let remainder' = c.add_term.new.remainder in
+    let lead = slice_index remainder (s + (k - 1)) in
     let term = λ (j : ℕ). field_product f x (frobenius f s (slice_index b j)) in
     let others = λ (i : ℕ) (apart : i ≢ s). get_or-set_other q s i x 0 apart in
     let here : slice_index q' s ≡ x = get_or-set_same q s x 0 (omega (arith, inv.long, c.loop-s.auto.s, c.loop-s-test.true, c.requires.fits, c.requires.some)) in
@@ -72,23 +72,23 @@ loop-s-preserved g c =
     let leads : term (k - 1) ≡ lead =
     right_leads f low (one_small f.degree c.ring-ring.ensures.irreducible.modulus.at_least_one)
     (slice_index b (k - 1)) c.inverse_of-inverse.result lead x c.pow2-power.result s
-    (coefficient-lt f.degree rest inv.rest_over (s + (k - 1))) one c.pow2-power.ensures.value c.mul-c.ensures.value in
+    (coefficient-lt f.degree remainder inv.remainder_over (s + (k - 1))) one c.pow2-power.ensures.value c.mul-c.ensures.value in
     let within : s + 1 ≤ c.args.places = omega (arith, c.loop-s-test.true, c.loop-s.auto.s) in
     let turn : (k + 1) * (s + 1) ≤ (k + 1) * c.args.places = mul-le-mul_left (k + 1) within in
     record {
-      sum_is = sum_more (slice_index c.args.rest.now) (composed f (slice_index q) (slice_index b)) (composed f (slice_index q') (slice_index b))
-          (slice_index rest) (slice_index rest') term s inv.sum_is
+      sum_is = sum_more (slice_index c.args.remainder.now) (composed f (slice_index q) (slice_index b)) (composed f (slice_index q') (slice_index b))
+          (slice_index remainder) (slice_index remainder') term s inv.sum_is
           (λ n before. composed-term_left_before f low (slice_index q) (slice_index q') (slice_index b) s n others before)
           (λ j. composed-term_left f low (slice_index q) (slice_index q') (slice_index b) s j others free
           ∙ ap (λ y. bit_xor (composed f (slice_index q) (slice_index b) (s + j)) (field_product f y (frobenius f s (slice_index b j)))) here)
           c.add_term.ensures.before c.add_term.ensures.added;
       free = λ n less. others n (λ e. omega (arith, e, less)) ∙ inv.free n (omega (arith, less));
-      ends = ends_more (slice_index rest) (slice_index rest') term s k c.requires.some (λ n past. inv.ends n (omega (arith, past, c.loop-s-test.true)))
+      ends = ends_more (slice_index remainder) (slice_index remainder') term s k c.requires.some (λ n past. inv.ends n (omega (arith, past, c.loop-s-test.true)))
           c.add_term.ensures.added leads
           (λ j past. ap (λ y. field_product f x (frobenius f s y)) (get_or_past b j 0 past) ∙ ap (field_product f x) (frobenius-zero f low s)
           ∙ field_product-zero f low x);
       quotient_over = All-set (λ c. c < 2 ^ f.degree) q s x below inv.quotient_over;
-      rest_over = IsOver-more f.degree rest rest' term s inv.rest_over (λ j. field_product-below f low x (frobenius f s (slice_index b j)))
+      remainder_over = IsOver-more f.degree remainder remainder' term s inv.remainder_over (λ j. field_product-below f low x (frobenius f s (slice_index b j)))
           c.add_term.ensures.before c.add_term.ensures.added;
       long = length-set q s x ∙ inv.long;
       counted = omega (arith, inv.counted, c.pow2-power.ensures.cost, c.mul-c.ensures.cost, c.add_term.ensures.cost, turns_split c.loop-s.s (c.args.places * (k + 1)) c.loop-s-test.true, turn);

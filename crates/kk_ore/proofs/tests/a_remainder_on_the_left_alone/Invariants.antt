@@ -1,4 +1,4 @@
-use Rattle.kk_ore.proofs.tests.a_rest_on_the_left_alone.Given as goal
+use Rattle.kk_ore.proofs.tests.a_remainder_on_the_left_alone.Given as goal
 
 -- the ledger of the steps
 abbrev pub ghosts-both : goal.ghosts-both

@@ -2,7 +2,7 @@ use Rattle.std.proofs.Common.{◌≡◌, ap, ◌∙◌, sym, subst}
 use Rattle.kk_linpoly.specs.LinPoly.{trimmed, sum_of, scaled}
 use Rattle.kk_interp.specs.Steps.{IsCombinedPart}
 use Rattle.kk_interp.proofs.PartSums.{combined_part-is, IsCombinedPart-combined}
-use Rattle.kk_interp.proofs.parts.combined.Goals as goal
+use Rattle.kk_interp.proofs.bi_poly.combined_part.Goals as goal
 
 pub returns-clause-combined : goal.returns-clause-combined
 returns-clause-combined g c =
