@@ -6,3 +6,6 @@ pub mod Shapes
 pub mod Answers
 pub mod Texts
 pub mod Outcomes
+pub mod Graphs
+pub mod CodeLaws
+pub mod Enumeration

@@ -1,6 +1,6 @@
 -- Hexadecimal numerals of a given width and decimals with no leading zero: their digits, what parses them, and that a number has
 -- exactly one.
-use Rattle.std.proofs.Common.{◌≡◌, ◌≢◌, ℕ, zero, suc, ◌/◌, ◌%◌, ◌^◌, ◌<◌, ◌≤◌, true, false, not, ◌&&◌, eqb, ltb, leb, List, [], ◌∷◌, ◌++◌, length, take, get_or, lit<, Result, Ok, refl, sym, ap, subst, lit≤, ◌∙◌, inl, inr, arith, rules}
+use Rattle.std.proofs.Common.{◌≡◌, ◌≢◌, ℕ, zero, suc, ◌+◌, ◌-◌, ◌*◌, ◌/◌, ◌%◌, ◌^◌, ◌<◌, ◌≤◌, true, false, not, ◌&&◌, eqb, ltb, leb, List, [], ◌∷◌, ◌++◌, length, take, get_or, lit<, Result, Ok, refl, sym, ap, subst, lit≤, ◌∙◌, inl, inr, arith, rules, add-one}
 use Rattle.std.specs.Char.{digit_value, is_ascii_digit}
 use Rattle.std.specs.List.{list_all}
 use Rattle.std.specs.Str.Parse.{AllDigits, digits_value, without_leading_plus, ParsesUnsigned, IsNumeral}
@@ -10,7 +10,7 @@ use Rattle.std.proofs.lemmas.Bool.Decides.{nat_tests}
 use Rattle.std.proofs.lemmas.Int.Digits.{digits_value-lt, digits_value_push}
 use Rattle.std.proofs.lemmas.Result.{Ok-from_Ok_iff}
 use Rattle.std.proofs.lemmas.Str.Parse.{IsNumeralModel, numerals_by_value, parse_gives, without_leading_plus_none, digits_value_short}
-use Rattle.std.proofs.Math.Nat.{pow-le-pow_right, pow-suc}
+use Rattle.std.proofs.Math.Nat.{pow-le-pow_right, pow-suc, div-div-eq-div-mul}
 use Rattle.std.proofs.Math.Seq.{take-length, take-suc}
 use Rattle.std.proofs.lemmas.List.{length-append, length-take-le}
 use Rattle.std.proofs.lemmas.List.Folds.{list_all-append}
@@ -91,6 +91,9 @@ value_of_digit d h = grind (arith, nat_tests)
 digit_of_value : (c : ℕ) → is_hex_digit c ≡ true → hex_digit (digit_value c) ≡ c
 digit_of_value c h = grind (arith, nat_tests)
 
+pub hex_digit_below : (d : ℕ) → d < 16 → hex_digit d < 128
+hex_digit_below d h = grind (arith, nat_tests)
+
 digit_is_hex : (d : ℕ) → d < 16 → is_hex_digit (hex_digit d) ≡ true
 digit_is_hex d h = grind (arith, nat_tests)
 
@@ -98,6 +101,29 @@ pub length-hex : (w n : ℕ) → length (hex w n) ≡ w
 unfolding hex
 length-hex zero n = refl
 length-hex (suc w) n = omega (arith, length-append (hex w (n / 16)) (hex_digit (n % 16) ∷ []), length-hex w (n / 16))
+
+pub hex-none : (n : ℕ) → hex 0 n ≡ []
+unfolding hex
+hex-none n = refl
+
+pow16 : (p : ℕ) → 2 ^ (4 * p) ≡ 16 ^ p
+pow16 zero = refl
+pow16 (suc p) =
+    let four : 4 * suc p ≡ suc (suc (suc (suc (4 * p)))) = omega arith in
+    let twos : 2 ^ suc (suc (suc (suc (4 * p)))) ≡ 16 * 2 ^ (4 * p) = omega (arith, pow-suc 2 (suc (suc (suc (4 * p)))), pow-suc 2 (suc (suc (4 * p))), pow-suc 2 (suc (4 * p)), pow-suc 2 (4 * p)) in
+    ap (λ e. 2 ^ e) four ∙ twos ∙ ap (λ n. 16 * n) (pow16 p) ∙ omega (arith, pow-suc 16 p)
+
+-- the first i digits of w, and the next one
+pub hex-more : (w i n : ℕ) → i < w → hex (i + 1) (n / 16 ^ (w - (i + 1))) ≡ hex i (n / 16 ^ (w - i)) ++ hex_digit (n / 2 ^ (4 * (w - 1 - i)) % 16) ∷ []
+unfolding hex
+hex-more w i n inside =
+    let p = w - (i + 1) in
+    let place : w - 1 - i ≡ p = omega arith in
+    let next : w - i ≡ suc p = omega arith in
+    let power : 16 ^ p * 16 ≡ 16 ^ (w - i) = omega (arith, pow-suc 16 p) ∙ sym (ap (λ e. 16 ^ e) next) in
+    ap (λ k. hex k (n / 16 ^ p)) (add-one i)
+    ∙ ap (λ q. hex i q ++ hex_digit (n / 16 ^ p % 16) ∷ []) (div-div-eq-div-mul n (16 ^ p) 16 ∙ ap (λ d. n / d) power)
+    ∙ ap (λ d. hex i (n / 16 ^ (w - i)) ++ hex_digit (n / d % 16) ∷ []) (sym (ap (λ e. 2 ^ (4 * e)) place ∙ pow16 p))
 
 list_all-hex : (w n : ℕ) → list_all is_hex_digit (hex w n) ≡ true
 unfolding hex

@@ -1,12 +1,15 @@
 -- A text is a ticket or has a first fault.
-use Rattle.std.proofs.Common.{◌≡◌, ◌⊎◌, ℕ, ◌+◌, ◌^◌, ◌≤◌, Bool, true, false, not, ◌&&◌, cond, leb, ltb, List, Option, Some, None, inl, inr, refl, sym, ap, ◌∙◌, arith}
+use Rattle.std.proofs.Common.{◌≡◌, ◌⊎◌, ℕ, ◌+◌, ◌^◌, ◌≤◌, Bool, true, false, not, ◌&&◌, cond, leb, ltb, List, Option, Some, None, inl, inr, refl, arith}
 use Rattle.std.proofs.lemmas.Bool.{cases_lt, cases_Bool, and_parts, leb-true, ltb-true}
 use Rattle.kk_field.specs.Field.{polynomial}
 use Rattle.kk_field.proofs.Remainders.{HasDegree-modulus}
 use Rattle.kk_code.specs.Codeword.{Parameters, IsInRange}
 use Rattle.kk_code.specs.Ticket.{TicketFields, generations}
-use Rattle.kk_code.specs.TicketText.{shape_fault, range_fault, spelled, most_generations, Fault, Shape, Range, NotIrreducible, TooMany, IsFirstFault, IsTicketText}
-use Rattle.kk_code.specs.Laws.{TextIsOfATicket, TextIsATicketOrFaulty, TextHasOneFault}
+use Rattle.kk_code.specs.TicketText.{shape_fault, range_fault, spelled, IsFirstFault, IsTicketText}
+use Rattle.kk_code.specs.declared.ticket.TheConstants.{MAX_GENERATIONS}
+use Rattle.kk_code.specs.declared.fault.TicketFault.{TicketFault}
+use Rattle.kk_code.specs.declared.fault.TicketFault.TheVariants.{Shape, Range, NotIrreducible, TooMany}
+use Rattle.kk_code.specs.Laws.{TextIsOfATicket, TextIsATicketOrFaulty}
 use Rattle.kk_code.proofs.Irreducible.{is_product, IsIrreducible-from_search, product-from_search}
 use Rattle.kk_code.proofs.Answers.{some_is_none}
 use Rattle.kk_code.proofs.Texts.{session_below}
@@ -45,7 +48,7 @@ value_of : {A : Type 0} (o : Option A) → ((x : A) × (o ≡ Some x)) ⊎ (o �
 value_of None = inr refl
 value_of (Some x) = inl (x, refl)
 
-outcome_in_range : (text : List ℕ) → shape_fault text ≡ None → range_fault (spelled text).code ≡ None → ((t : TicketFields) × IsTicketText text t) ⊎ ((fault : Fault) × IsFirstFault text fault)
+outcome_in_range : (text : List ℕ) → shape_fault text ≡ None → range_fault (spelled text).code ≡ None → ((t : TicketFields) × IsTicketText text t) ⊎ ((fault : TicketFault) × IsFirstFault text fault)
 outcome_in_range text shape range =
     let p = (spelled text).code in
     let h = IsInRange-from_no_fault p range in
@@ -54,7 +57,7 @@ outcome_in_range text shape range =
       | inl product ↦ inr (NotIrreducible, (shape, range, product-from_search (polynomial p.field) (2 ^ p.field.degree) product))
       | inr none ↦
           let irreducible = IsIrreducible-from_search (polynomial p.field) p.field.degree one (HasDegree-modulus p.field.degree p.field.low h.low) none in
-          elim (cases_lt most_generations (generations (spelled text))) [
+          elim (cases_lt MAX_GENERATIONS (generations (spelled text))) [
             | inl many ↦ inr (TooMany (generations (spelled text)), (shape, range, irreducible, refl, many))
             | inr few ↦ inl (spelled text, record { shape = shape; spells = refl; range = range; irreducible = irreducible; few = few })
           ]
@@ -69,24 +72,3 @@ outcome_of text =
         | inr range ↦ outcome_in_range text shape range
       ]
     ]
-
-same_some : {o : Option ℕ} (x y : ℕ) → o ≡ Some x → o ≡ Some y → x ≡ y
-same_some x y ex ey = cc
-
-pub one_fault : TextHasOneFault
-one_fault text (Shape m) (Shape n) f g = ap Shape (same_some m n f g)
-one_fault text (Shape m) (Range n) f g = absurd (some_is_none (shape_fault text) m f g.0)
-one_fault text (Shape m) NotIrreducible f g = absurd (some_is_none (shape_fault text) m f g.0)
-one_fault text (Shape m) (TooMany n) f g = absurd (some_is_none (shape_fault text) m f g.0)
-one_fault text (Range m) (Shape n) f g = absurd (some_is_none (shape_fault text) n g f.0)
-one_fault text (Range m) (Range n) f g = ap Range (same_some m n f.1 g.1)
-one_fault text (Range m) NotIrreducible f g = absurd (some_is_none (range_fault (spelled text).code) m f.1 g.1)
-one_fault text (Range m) (TooMany n) f g = absurd (some_is_none (range_fault (spelled text).code) m f.1 g.1)
-one_fault text NotIrreducible (Shape n) f g = absurd (some_is_none (shape_fault text) n g f.0)
-one_fault text NotIrreducible (Range n) f g = absurd (some_is_none (range_fault (spelled text).code) n g.1 f.1)
-one_fault text NotIrreducible NotIrreducible f g = refl
-one_fault text NotIrreducible (TooMany n) f g = absurd (f.2 g.2)
-one_fault text (TooMany m) (Shape n) f g = absurd (some_is_none (shape_fault text) n g f.0)
-one_fault text (TooMany m) (Range n) f g = absurd (some_is_none (range_fault (spelled text).code) n g.1 f.1)
-one_fault text (TooMany m) NotIrreducible f g = absurd (g.2 f.2)
-one_fault text (TooMany m) (TooMany n) f g = ap TooMany (sym f.3 ∙ g.3)

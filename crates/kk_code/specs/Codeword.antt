@@ -2,6 +2,7 @@
 use Rattle.std.specs.Prelude.{◌≡◌, ℕ, ◌+◌, ◌*◌, ◌^◌, ◌<◌, ◌≤◌, List, length, map, All}
 use Rattle.std.specs.List.{range_with_len}
 use Rattle.kk_field.specs.Field.{Modulus}
+use Rattle.kk_field.specs.Laws.{IsFieldModulus}
 use Rattle.kk_linpoly.specs.LinPoly.{value}
 
 -- The code over GF(2^m): l evaluation points, and messages of k symbols.
@@ -23,6 +24,12 @@ pub record IsInRange (p : Parameters) : Type 0 where
   pub l_high : p.l ≤ p.field.degree
   pub wide : p.l + p.field.degree ≤ 63
   pub k_low : 1 ≤ p.k
+  pub k_high : p.k ≤ p.l
+
+-- what the laws of codewords ask of a code: a field, points below 2^m, and no more symbols than points
+pub record IsCode (p : Parameters) : Type 0 where
+  pub field : IsFieldModulus p.field
+  pub l_high : p.l ≤ p.field.degree
   pub k_high : p.k ≤ p.l
 
 -- k symbols of the field

@@ -27,10 +27,11 @@ unfoldable pub message_at : ℕ → ℕ → ℕ → List ℕ
 message_at m zero n = []
 message_at m (suc k) n = n / 2 ^ (m * k) % 2 ^ m ∷ message_at m k n
 
--- all messages, in the order of their first symbol, then their second and so on
+-- all messages
 abbrev pub messages : Parameters → List (List ℕ)
 messages p = map (λ n. message_at p.field.degree p.k n) (range_with_len 0 (2 ^ (p.field.degree * p.k)))
 
--- the first message that decodes the space
+-- The message that decodes the space, found by a search through all messages. At most one decodes it, so their order
+-- makes no difference: the law AnswerIsTheMessage says that this is u exactly where u decodes the space.
 unfoldable pub answer : Parameters → List ℕ → Option (List ℕ)
 answer p rows = find (within_radius p rows) (messages p)

@@ -1,4 +1,5 @@
 pub mod Codeword
+pub mod Limits
 pub mod Decoding
 pub mod Ticket
 pub mod TicketText

@@ -1,15 +1,14 @@
 -- What `Ticket::read` answers.
 use Rattle.std.specs.Prelude.{ℕ, List, Result, Ok, Err}
 use Rattle.kk_code.specs.Ticket.{TicketFields}
-use Rattle.kk_code.specs.TicketText.{Fault, IsFirstFault, IsTicketText}
+use Rattle.kk_code.specs.TicketText.{IsFirstFault, IsTicketText}
 use Rattle.kk_code.specs.declared.fault.TicketFault.{TicketFault}
-use Rattle.kk_code.specs.declared.fault.TicketFault.TheVariants.{Refused}
 
 -- a text with a fault
 abbrev pub IsRefused : List ℕ → Type 0
-IsRefused text = (fault : Fault) × IsFirstFault text fault
+IsRefused text = (fault : TicketFault) × IsFirstFault text fault
 
--- The answer to a text: the ticket that it is, or that it has a fault.
+-- The answer to a text: the ticket that it is, or its first fault.
 abbrev pub IsAnswer : List ℕ → Result TicketFields TicketFault → Type 0
 IsAnswer text (Ok t) = IsTicketText text t
-IsAnswer text (Err Refused) = IsRefused text
+IsAnswer text (Err fault) = IsFirstFault text fault

@@ -5,7 +5,8 @@ use Rattle.std.specs.Fmt.{digits}
 use Rattle.std.proofs.Common.{lit<, lit≤}
 use Rattle.kk_field.specs.Polynomial.{product, product_below, IsIrreducible}
 use Rattle.kk_code.specs.Ticket.{TicketFields, ticket_text, hex, generations, one_byte}
-use Rattle.kk_code.specs.TicketText.{range_fault, spelled, first_misshapen, is_hex, is_decimal, Shape, Range, NotIrreducible, TooMany, IsFirstFault, IsTicketText}
+use Rattle.kk_code.specs.TicketText.{range_fault, spelled, first_misshapen, is_hex, is_decimal, IsFirstFault, IsTicketText}
+use Rattle.kk_code.specs.declared.fault.TicketFault.TheVariants.{Shape, Range, NotIrreducible, TooMany}
 
 pub text_of_one_byte : ticket_text one_byte ≡ codes "kk1:00000001:3:0000000000000003:3:1:1"
 unfolding ticket_text hex digits
@@ -30,7 +31,7 @@ empty_file_is_read irreducible = record { shape = refl; spells = refl; range = r
 pub no_generations : generations empty_file ≡ 0
 no_generations = refl
 
--- a leading zero in K, a capital letter in MOD, one field too few, one too many
+-- a leading zero in K, a capital letter in MOD, one part too few, one too many
 pub leading_zero : IsFirstFault (codes "kk1:00000001:3:0000000000000003:3:01:1") (Shape 5)
 unfolding first_misshapen is_hex is_decimal
 leading_zero = refl
@@ -39,13 +40,13 @@ pub capital_letter : IsFirstFault (codes "kk1:00000001:8:000000000000001B:4:2:1"
 unfolding first_misshapen is_hex is_decimal
 capital_letter = refl
 
-pub missing_field : IsFirstFault (codes "kk1:00000001") (Shape 2)
+pub missing_part : IsFirstFault (codes "kk1:00000001") (Shape 2)
 unfolding first_misshapen is_hex is_decimal
-missing_field = refl
+missing_part = refl
 
-pub eighth_field : IsFirstFault (ticket_text one_byte ++ codes ":") (Shape 7)
+pub eighth_part : IsFirstFault (ticket_text one_byte ++ codes ":") (Shape 7)
 unfolding ticket_text hex digits first_misshapen is_hex is_decimal
-eighth_field = refl
+eighth_part = refl
 
 -- a low part of degree m, and rows of 64 bits
 pub long_low : IsFirstFault (codes "kk1:00000001:3:0000000000000008:3:1:1") (Range 3)

@@ -8,19 +8,22 @@ use Rattle.std.specs.Str.Parse.{digits_value}
 use Rattle.kk_field.specs.Field.{polynomial}
 use Rattle.kk_field.specs.Polynomial.{IsIrreducible}
 use Rattle.kk_code.specs.Codeword.{Parameters, IsInRange, width}
+use Rattle.kk_code.specs.declared.ticket.TheConstants.{MAX_GENERATIONS}
+use Rattle.kk_code.specs.declared.fault.TicketFault.{TicketFault}
+use Rattle.kk_code.specs.declared.fault.TicketFault.TheVariants.{Shape, Range, NotIrreducible, TooMany}
 use Rattle.kk_code.specs.Ticket.{TicketFields, generations}
 
 -- the text cut at each colon
-abbrev pub fields : List ℕ → List (List ℕ)
-fields text = slice_split (λ c. c == 58) text
+abbrev pub parts : List ℕ → List (List ℕ)
+parts text = slice_split (λ c. c == 58) text
 
--- field number i, counted from 0, and nothing where there is none
-abbrev pub field_at : List ℕ → ℕ → List ℕ
-field_at text i = slice_index_or (fields text) i []
+-- part number i, counted from 0, and nothing where there is none
+abbrev pub part_at : List ℕ → ℕ → List ℕ
+part_at text i = slice_index_or (parts text) i []
 
--- field number i is there and has the form
+-- part number i is there and has the form
 abbrev pub has_form : (List ℕ → Bool) → List ℕ → ℕ → Bool
-has_form form text i = option_map_or form (slice_get (fields text) i) false
+has_form form text i = option_map_or form (slice_get (parts text) i) false
 
 -- the mark of this version
 abbrev pub is_mark : List ℕ → Bool
@@ -43,39 +46,39 @@ unfoldable pub is_decimal : List ℕ → Bool
 is_decimal text =
     nat_lt 0 (length text) && nat_le (length text) 10 && not (has_leading_zero text) && list_all is_ascii_digit text
 
--- what fields 0 to 6 have to be: the mark, SESSION, M, MOD, L, K and LENGTH
+-- what parts 0 to 6 have to be: the mark, SESSION, M, MOD, L, K and LENGTH
 abbrev pub forms : List (List ℕ → Bool)
 forms = is_mark ∷ is_hex 8 ∷ is_decimal ∷ is_hex 16 ∷ is_decimal ∷ is_decimal ∷ is_decimal ∷ []
 
--- The first field, counted from n, that is missing or not of its form. Where each form has its field, it is the first
--- field that is too many.
+-- The first part, counted from n, that is missing or not of its form. Where each form has its part, it is the first
+-- part that is too many.
 unfoldable pub first_misshapen : ℕ → List (List ℕ → Bool) → List (List ℕ) → Option ℕ
 first_misshapen n [] [] = None
-first_misshapen n [] (field ∷ more) = Some n
+first_misshapen n [] (part ∷ more) = Some n
 first_misshapen n (form ∷ others) [] = Some n
-first_misshapen n (form ∷ others) (field ∷ more) =
-    if form field then first_misshapen (n + 1) others more else Some n
+first_misshapen n (form ∷ others) (part ∷ more) =
+    if form part then first_misshapen (n + 1) others more else Some n
 
--- the number of the field at which the shape of the text is wrong
+-- the number of the part at which the shape of the text is wrong
 abbrev pub shape_fault : List ℕ → Option ℕ
-shape_fault text = first_misshapen 0 forms (fields text)
+shape_fault text = first_misshapen 0 forms (parts text)
 
--- the numbers that the fields of a well-shaped text spell
+-- the numbers that the parts of a well-shaped text spell
 unfoldable pub spelled : List ℕ → TicketFields
 spelled text = record {
-  session = digits_value 16 (field_at text 1);
+  session = digits_value 16 (part_at text 1);
   code = record {
     field = record {
-      degree = digits_value 10 (field_at text 2);
-      low = digits_value 16 (field_at text 3);
+      degree = digits_value 10 (part_at text 2);
+      low = digits_value 16 (part_at text 3);
     };
-    l = digits_value 10 (field_at text 4);
-    k = digits_value 10 (field_at text 5);
+    l = digits_value 10 (part_at text 4);
+    k = digits_value 10 (part_at text 5);
   };
-  length = digits_value 10 (field_at text 6);
+  length = digits_value 10 (part_at text 6);
 }
 
--- The number of the first field that is out of its range: 2 for M, 3 for MOD, 4 for L and 5 for K.
+-- The number of the first part that is out of its range: 2 for M, 3 for MOD, 4 for L and 5 for K.
 unfoldable pub range_fault : Parameters → Option ℕ
 range_fault p =
     if not (nat_le 2 p.field.degree && nat_le p.field.degree 62) then Some 2
@@ -84,41 +87,29 @@ range_fault p =
     else (if not (nat_le 1 p.k && nat_le p.k p.l) then Some 5
     else None)))
 
--- the most messages that a transmission has
-abbrev pub most_generations : ℕ
-most_generations = 16384
-
--- the fields that a ticket can have
+-- the session, code and length that a ticket can have
 pub record IsTicket (t : TicketFields) : Type 0 where
   pub session : t.session < 2 ^ 32
   pub code : IsInRange t.code
   pub irreducible : IsIrreducible (polynomial t.code.field)
-  pub few : generations t ≤ most_generations
+  pub few : generations t ≤ MAX_GENERATIONS
 
--- a text that is a ticket, with these fields
+-- a text that is a ticket, with this session, code and length
 pub record IsTicketText (text : List ℕ) (t : TicketFields) : Type 0 where
   pub shape : shape_fault text ≡ None
   pub spells : spelled text ≡ t
   pub range : range_fault t.code ≡ None
   pub irreducible : IsIrreducible (polynomial t.code.field)
-  pub few : generations t ≤ most_generations
+  pub few : generations t ≤ MAX_GENERATIONS
 
--- What is wrong with a text: a field is missing, too many or not of its form; a number is out of its range;
--- X^M + low is a product of two polynomials of degree at least 1; the file takes more messages than a transmission has.
-pub data Fault : Type 0 where
-  Shape : (at : ℕ) → Fault
-  Range : (field : ℕ) → Fault
-  NotIrreducible : Fault
-  TooMany : (messages : ℕ) → Fault
-
--- The fault that is told of a text: it is looked for in the order of the cases, each where none before it holds.
-abbrev pub IsFirstFault : List ℕ → Fault → Type 0
+-- The fault of a text that is no ticket: the first of these that holds, in the order of the cases.
+abbrev pub IsFirstFault : List ℕ → TicketFault → Type 0
 IsFirstFault text (Shape at) = shape_fault text ≡ Some at
-IsFirstFault text (Range field) = (shape_fault text ≡ None) × (range_fault (spelled text).code ≡ Some field)
+IsFirstFault text (Range part) = (shape_fault text ≡ None) × (range_fault (spelled text).code ≡ Some part)
 IsFirstFault text NotIrreducible =
     (shape_fault text ≡ None) × (range_fault (spelled text).code ≡ None)
     × ¬ IsIrreducible (polynomial (spelled text).code.field)
-IsFirstFault text (TooMany messages) =
+IsFirstFault text (TooMany n) =
     (shape_fault text ≡ None) × (range_fault (spelled text).code ≡ None)
     × IsIrreducible (polynomial (spelled text).code.field)
-    × (generations (spelled text) ≡ messages) × (most_generations < messages)
+    × (generations (spelled text) ≡ n) × (MAX_GENERATIONS < n)

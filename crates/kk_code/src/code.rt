@@ -1,9 +1,11 @@
 //! The parameters of a code.
-ghost use Rattle.std.specs.Prelude.{◌≡◌};
-ghost use Rattle.kk_code.specs.Codeword.{Parameters, IsInRange, width};
-ghost use Rattle.kk_field.specs.Laws.{IsFieldModulus};
+ghost use Rattle.std.specs.Prelude.{◌≡◌, ◌/◌, ◌%◌, ◌^◌, ◌<◌, IfOk, IfErr};
+ghost use Rattle.kk_code.specs.Codeword.{Parameters, IsInRange, IsCode, width};
+ghost use Rattle.kk_code.specs.Limits.{IsFirstBroken};
 
-use kk_field::{Field, Ring};
+use crate::BadParams;
+use kk_field::Field;
+use kk_rows::Row;
 use std::marker::Model;
 
 /// The code of Kötter and Kschischang (IEEE Trans. Inf. Theory 54(8), 2008, section IV) over GF(2^m), with `l`
@@ -19,20 +21,51 @@ pub struct Code {
 
 // Clauses see the parameters.
 impl Model for Code {
+    ghost use Rattle.kk_code.specs.Codeword.{Parameters, IsInRange, IsCode};
+
     ghost Value = { Parameters };
 
     ghost view = { λ c. record { field = c.field; l = c.l; k = c.k } };
 
-    ghost invariant = { λ c. IsInRange (record { field = c.field; l = c.l; k = c.k }) };
+    ghost invariant = { λ c. IsInRange (record { field = c.field; l = c.l; k = c.k }) × IsCode (record { field = c.field; l = c.l; k = c.k }) };
 
     ghost inverse = { λ p. record { field = p.field; l = p.l; k = p.k } };
 }
 
 impl Code {
-    pub(crate) fn new(field: Field, l: u32, k: u32) -> Self
+    /// The code over the field with `l` evaluation points and messages of `k` symbols.
+    ///
+    /// # Errors
+    ///
+    /// The first limit that is broken: `M`, `L`, `Wide` or `K`.
+    pub fn new(field: Field, l: u32, k: u32) -> Result<Self, BadParams>
+        ensures code { IfOk result (λ code. code ≡ record { field = field; l = l; k = k }) }
+        ensures in_range { IfOk result IsInRange }
+        ensures broken { IfErr result (IsFirstBroken (record { field = field; l = l; k = k })) }
+    {
+        let m = field.ring().m();
+        if m < 2 || m > 62 {
+            return Err(BadParams::M);
+        }
+        if l < 1 || l > m {
+            return Err(BadParams::L);
+        }
+        if l + m > 63 {
+            return Err(BadParams::Wide);
+        }
+        if k < 1 || k > l {
+            return Err(BadParams::K);
+        }
+        Ok(Code::from_parts(field, l, k))
+    }
+
+    /// The code of parameters that are known to be in range.
+    pub(crate) fn from_parts(field: Field, l: u32, k: u32) -> Self
         requires { IsInRange (record { field = field; l = l; k = k }) }
         ensures { result ≡ record { field = field; l = l; k = k } }
     {
+        // its modulus is irreducible, which a code asks of its field
+        let _ring = field.ring();
         Code { field, l, k }
     }
 
@@ -40,16 +73,9 @@ impl Code {
     pub fn field(&self) -> Field
         ensures field { result ≡ self.now.field }
         ensures in_range { IsInRange self.now }
+        ensures code { IsCode self.now }
     {
         self.field
-    }
-
-    pub(crate) fn ring(&self) -> Ring
-        ensures field { result ≡ self.now.field }
-        ensures irreducible { IsFieldModulus result }
-        ensures in_range { IsInRange self.now }
-    {
-        self.field.ring()
     }
 
     /// The degree of the field: a symbol has `m` bits.
@@ -57,13 +83,14 @@ impl Code {
         ensures degree { result ≡ self.now.field.degree }
         ensures in_range { IsInRange self.now }
     {
-        self.ring().m()
+        self.field.ring().m()
     }
 
     /// How many evaluation points it has, and so how many rows a codeword.
     pub fn l(&self) -> u32
         ensures points { result ≡ self.now.l }
         ensures in_range { IsInRange self.now }
+        ensures code { IsCode self.now }
     {
         self.l
     }
@@ -72,6 +99,7 @@ impl Code {
     pub fn k(&self) -> u32
         ensures symbols { result ≡ self.now.k }
         ensures in_range { IsInRange self.now }
+        ensures code { IsCode self.now }
     {
         self.k
     }
@@ -82,5 +110,47 @@ impl Code {
         ensures in_range { IsInRange self.now }
     {
         self.l + self.m()
+    }
+
+    /// The x-part and the y-part of a row, which has `l + m` bits: both are elements of the field.
+    pub fn parts(&self, row: Row) -> (u64, u64)
+        requires { row.0 < 2 ^ width self.now }
+        ensures x { result.0 ≡ row.0 / 2 ^ self.now.field.degree }
+        ensures y { result.1 ≡ row.0 % 2 ^ self.now.field.degree }
+        ensures x_below { result.0 < 2 ^ self.now.field.degree }
+        ensures y_below { result.1 < 2 ^ self.now.field.degree }
+    {
+        let m = self.m();
+        (row.0 >> m, row.0 & ((1 << m) - 1))
+    }
+}
+
+#[cfg(test)]
+mod tests {
+    use super::*;
+    use crate::check_modulus;
+
+    /// The limit that is broken first, where the modulus X^m + low is irreducible.
+    fn broken(m: u32, low: u64, l: u32, k: u32) -> Option<BadParams> {
+        if !(1..=64).contains(&m) || (m < 64 && low >> m != 0) {
+            return None;
+        }
+        let field = check_modulus(m, low).ok()?;
+        Code::new(field, l, k).err()
+    }
+
+    #[test]
+    fn the_first_broken_limit_is_named(rt: HostRuntime) {
+        for (m, low, l, k, limit) in [
+            (3, 3, 3, 1, None),
+            (64, 0x1b, 0, 0, Some(BadParams::M)),
+            (3, 3, 0, 0, Some(BadParams::L)),
+            (3, 3, 4, 5, Some(BadParams::L)),
+            (40, 0x39, 24, 25, Some(BadParams::Wide)),
+            (3, 3, 3, 0, Some(BadParams::K)),
+            (3, 3, 3, 4, Some(BadParams::K)),
+        ] {
+            assert_eq!(rt; broken(m, low, l, k), limit);
+        }
     }
 }

@@ -1,4 +1,5 @@
-//! Laws of the definitions of tickets, each the contract of a function that does nothing.
+//! Laws of codewords and of the definitions of tickets, each the contract of a function that does nothing.
+ghost use Rattle.kk_code.specs.Laws.{CodewordIsAGraph, CodewordsAreFarApart, DecodingIsUnique, AnswerIsTheMessage};
 ghost use Rattle.kk_code.specs.Laws.{TextIsOfATicket, TicketHasItsText, TicketHasOneText, TextIsATicketOrFaulty, TicketHasNoFault, TextHasOneFault};
 
 /// What a text spells is a ticket: its numbers are in range, its modulus is irreducible, and its file isn't too long.
@@ -29,4 +30,24 @@ pub fn ticket_has_no_fault()
 /// A text has one first fault.
 pub fn text_has_one_fault()
     ensures { TextHasOneFault }
+{}
+
+/// A row (x, y) is in the span of a codeword exactly where x is below 2^l and y is the value of its polynomial at x.
+pub fn codeword_is_a_graph()
+    ensures { CodewordIsAGraph }
+{}
+
+/// The codewords of different messages are at distance 2·(l - k + 1) at least.
+pub fn codewords_are_far_apart()
+    ensures { CodewordsAreFarApart }
+{}
+
+/// At most one message has its codeword within distance l - k of a space.
+pub fn decoding_is_unique()
+    ensures { DecodingIsUnique }
+{}
+
+/// The answer is u exactly where u decodes the space, and there is none exactly where no message does.
+pub fn answer_is_the_message()
+    ensures { AnswerIsTheMessage }
 {}

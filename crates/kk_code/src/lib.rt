@@ -1,23 +1,28 @@
 //! The code of Kötter and Kschischang, its tickets and its encoder.
 #![tactic(auto)]
 
+mod bad_params;
 mod code;
 mod encoder;
 mod fault;
-mod fields;
 pub mod laws;
 mod message;
+mod metric;
 mod modulus;
+mod parts;
 mod rows;
 mod ticket;
+mod writing;
 
+pub use bad_params::BadParams;
 pub use code::Code;
-pub use encoder::encode;
+pub use encoder::{encode, encode_with};
 pub use fault::TicketFault;
 pub use message::Message;
+pub use metric::distance;
 pub use modulus::{NotIrreducible, check_modulus};
 pub use rows::CodeRows;
-pub use ticket::Ticket;
+pub use ticket::{MAX_GENERATIONS, Ticket};
 
 #[cfg(test)]
 mod tests;

@@ -1,5 +1,5 @@
 //! The test of a modulus.
-ghost use Rattle.std.specs.Prelude.{◌≡◌, ◌↔◌, ◌^◌, ◌<◌, ◌≤◌, IsOk, IfOk};
+ghost use Rattle.std.specs.Prelude.{◌≡◌, ◌↔◌, ◌^◌, ◌<◌, ◌≤◌, Some, IsOk, IfOk, codes};
 ghost use Rattle.kk_field.specs.Field.{polynomial};
 ghost use Rattle.kk_field.specs.Polynomial.{IsIrreducible};
 
@@ -12,8 +12,10 @@ use std::fmt;
 pub struct NotIrreducible;
 
 impl fmt::Display for NotIrreducible {
+    ghost output = { λ _. Some (codes "the modulus is not irreducible") };
+
     fn fmt<W: fmt::Write>(&self, f: &mut fmt::Formatter<W>) -> fmt::Result {
-        f.write_str("the modulus is not irreducible")
+        write!(f, "the modulus is not irreducible")
     }
 }
 

@@ -37,82 +37,53 @@ fn a_message_keeps_its_symbols(rt: HostRuntime) -> Result<(), Fail> {
     Ok(())
 }
 
-#[test]
-fn a_ticket_tells_its_fields(rt: HostRuntime) -> Result<(), Fail> {
-    let ticket = Ticket::read("kk1:00c0ffee:4:0000000000000003:4:3:4096")?;
-    assert_eq!(rt; ticket.session(), 0xc0ffee);
-    assert_eq!(rt; ticket.length(), 4096);
-    assert_eq!(rt; ticket.generations(), 2731);
-    let code = ticket.code();
-    assert_eq!(rt; [code.m(), code.l(), code.k(), code.width()], [4, 4, 3, 8]);
-    Ok(())
-}
-
 fn generations(word: &str) -> Result<u32, TicketFault> {
     Ok(Ticket::read(word)?.generations())
 }
 
 #[test]
-fn files_of_no_bytes_to_the_most_messages_are_read(rt: HostRuntime) -> Result<(), Fail> {
-    assert_eq!(rt; generations("kk1:00000001:3:0000000000000003:3:1:0"), Ok(0));
-    assert_eq!(rt; generations(ONE_BYTE), Ok(3));
-    assert_eq!(rt;
-        generations("kk1:00000001:2:0000000000000003:1:1:4096"),
-        Ok(16384)
-    );
+fn a_ticket_tells_what_its_text_spells(rt: HostRuntime) -> Result<(), Fail> {
+    let word = "kk1:00c0ffee:4:0000000000000003:4:3:4096";
+    let ticket = Ticket::read(word)?;
+    assert_eq!(rt; ticket.session(), 0xc0ffee);
+    assert_eq!(rt; ticket.length(), 4096);
+    assert_eq!(rt; ticket.generations(), 2731);
+    let code = ticket.code();
+    assert_eq!(rt; [code.m(), code.l(), code.k(), code.width()], [4, 4, 3, 8]);
+    assert_eq!(rt; ticket.write().as_str(), word);
     Ok(())
 }
 
 #[test]
-fn a_text_of_another_shape_is_refused(rt: HostRuntime) -> Result<(), Fail> {
-    let refused = Err(TicketFault::Refused);
-    assert_eq!(rt;
-        generations("kk1:00000001:3:0000000000000003:3:01:1"),
-        refused
-    );
-    assert_eq!(rt;
-        generations("kk1:00000001:8:000000000000001B:4:2:1"),
-        refused
-    );
-    assert_eq!(rt; generations("kk1:00000001"), refused);
-    assert_eq!(rt;
-        generations("kk1:00000001:3:0000000000000003:3:1:1:"),
-        refused
-    );
-    Ok(())
-}
-
-#[test]
-fn a_number_out_of_its_range_is_refused(rt: HostRuntime) -> Result<(), Fail> {
-    let refused = Err(TicketFault::Refused);
-    assert_eq!(rt;
-        generations("kk1:00000001:3:0000000000000008:3:1:1"),
-        refused
-    );
-    assert_eq!(rt;
-        generations("kk1:00000001:32:0000000000000009:32:16:1"),
-        refused
-    );
-    Ok(())
-}
-
-#[test]
-fn a_product_and_a_long_file_are_refused(rt: HostRuntime) -> Result<(), Fail> {
-    let refused = Err(TicketFault::Refused);
-    assert_eq!(rt;
-        generations("kk1:00000001:4:0000000000000005:3:1:1"),
-        refused
-    );
-    assert_eq!(rt;
-        generations("kk1:00000001:2:0000000000000003:1:1:4097"),
-        refused
-    );
-    Ok(())
-}
-
-#[test]
-fn a_ticket_for_longer_messages_is_read(rt: HostRuntime) {
-    assert_eq!(rt; generations("kk1:00000001:8:000000000000001b:4:2:1"), Ok(1));
+fn texts_are_tickets_or_have_a_first_fault(rt: HostRuntime) {
+    let shape = |at| Err(TicketFault::Shape { at });
+    let range = |field| Err(TicketFault::Range { field });
+    for (word, answer) in [
+        ("kk1:00000001:3:0000000000000003:3:1:0", Ok(0)),
+        (ONE_BYTE, Ok(3)),
+        ("kk1:00000001:8:000000000000001b:4:2:1", Ok(1)),
+        ("kk1:00000001:2:0000000000000003:1:1:4096", Ok(16384)),
+        ("kk1:00000001:3:0000000000000003:3:01:1", shape(5)),
+        ("kk1:00000001:8:000000000000001B:4:2:1", shape(3)),
+        ("kk1:00000001", shape(2)),
+        ("kk1:00000001:3:0000000000000003:3:1:1:", shape(7)),
+        ("", shape(0)),
+        ("kk1:00000001:99:0000000000000003:3:+1:1", shape(5)),
+        ("kk1:00000001:63:0000000000000003:3:1:1", range(2)),
+        ("kk1:00000001:3:0000000000000008:3:1:1", range(3)),
+        ("kk1:00000001:32:0000000000000009:32:16:1", range(4)),
+        ("kk1:00000001:4:0000000000000005:3:4:1", range(5)),
+        (
+            "kk1:00000001:4:0000000000000005:3:1:1",
+            Err(TicketFault::NotIrreducible),
+        ),
+        (
+            "kk1:00000001:2:0000000000000003:1:1:4097",
+            Err(TicketFault::TooMany { generations: 16388 }),
+        ),
+    ] {
+        assert_eq!(rt; generations(word), answer, "{word}");
+    }
 }
 
 fn is_good(m: u32, low: u64) -> bool {

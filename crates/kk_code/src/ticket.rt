@@ -1,12 +1,17 @@
 //! Tickets: what sender, relays and receiver agree on before a transmission.
-ghost use Rattle.std.specs.Prelude.{◌≡◌, ℕ, ◌^◌, ◌<◌, ◌↔◌, Ok, IfOk, IsErrOf};
-ghost use Rattle.kk_code.specs.Ticket.{TicketFields, generations};
-ghost use Rattle.kk_code.specs.TicketText.{IsTicket, IsTicketText};
+ghost use Rattle.std.specs.Prelude.{◌≡◌, ℕ, ◌^◌, ◌<◌, ◌↔◌, Ok, Err, IfOk, IsErr};
+ghost use Rattle.kk_code.specs.Ticket.{TicketFields, generations, ticket_text};
+ghost use Rattle.kk_code.specs.TicketText.{IsTicket, IsTicketText, IsFirstFault};
 ghost use Rattle.kk_code.specs.Reading.{IsRefused, IsAnswer};
 
-use crate::fields::Fields;
+use crate::parts::Parts;
+use crate::writing::{push_decimal, push_hex};
 use crate::{Code, TicketFault, check_modulus};
+use arrayvec::ArrayString;
 use std::marker::Model;
+
+/// The most generations, and so the most messages of a file, that a ticket has.
+pub const MAX_GENERATIONS: u32 = 16_384;
 
 /// A session, the code of its frames and the length of its file.
 #[derive(Clone, Copy)]
@@ -14,16 +19,21 @@ pub struct Ticket {
     session: u32,
     code: Code,
     length: u64,
+    generation_count: u32,
 }
 
 impl Model for Ticket {
+    ghost use Rattle.std.specs.Prelude.{◌≡◌};
+    ghost use Rattle.kk_code.specs.Ticket.{TicketFields, generations};
+    ghost use Rattle.kk_code.specs.TicketText.{IsTicket};
+
     ghost Value = { TicketFields };
 
     ghost view = { λ t. record { session = t.session; code = t.code; length = t.length } };
 
-    ghost invariant = { λ t. IsTicket (record { session = t.session; code = t.code; length = t.length }) };
+    ghost invariant = { λ t. IsTicket (record { session = t.session; code = t.code; length = t.length }) × (t.generation_count ≡ generations (record { session = t.session; code = t.code; length = t.length })) };
 
-    ghost inverse = { λ t. record { session = t.session; code = t.code; length = t.length } };
+    ghost inverse = { λ t. record { session = t.session; code = t.code; length = t.length; generation_count = generations t } };
 }
 
 impl Ticket {
@@ -57,8 +67,7 @@ impl Ticket {
         ensures count { result ≡ generations self.now }
         ensures ticket { IsTicket self.now }
     {
-        let bits = u64::from(self.code.k() * self.code.m());
-        ((8 * self.length + (bits - 1)) / bits) as u32
+        self.generation_count
     }
 
     /// The ticket that the text is, one word `kk1:SESSION:M:MOD:L:K:LENGTH`.
@@ -69,34 +78,56 @@ impl Ticket {
     ///
     /// # Errors
     ///
-    /// `Refused` for every text that is no ticket.
+    /// The first fault of a text that is no ticket.
     pub fn read(word: &str) -> Result<Self, TicketFault>
         ensures ticket { IfOk result (IsTicketText word.now) }
         ensures every { (t : TicketFields) → IsTicketText word.now t → result ≡ Ok t }
-        ensures refused { IsErrOf result TicketFault.Refused ↔ IsRefused word.now }
+        ensures refused { IsErr result ↔ IsRefused word.now }
+        ensures fault { (fault : TicketFault) → (result ≡ Err fault) ↔ IsFirstFault word.now fault }
     {
         Self::answer(word)
     }
 
+    /// The one text of the ticket, which [`Ticket::read`] takes to it. It has at most 46 characters.
+    pub fn write(&self) -> ArrayString<64>
+        ensures text { result.bytes ≡ ticket_text self.now }
+        ensures read { IsTicketText result.bytes self.now }
+    {
+        let code = self.code();
+        let mut text = ArrayString::new();
+        text.push_str("kk1");
+        push_hex(&mut text, u64::from(self.session()), 8);
+        push_decimal(&mut text, code.m());
+        push_hex(&mut text, code.field().ring().low(), 16);
+        push_decimal(&mut text, code.l());
+        push_decimal(&mut text, code.k());
+        push_decimal(&mut text, self.length() as u32);
+        text
+    }
+
+    /// What the text is read as.
     fn answer(word: &str) -> Result<Self, TicketFault>
         ensures { IsAnswer word.now result }
     {
-        let Ok(fields) = Fields::read(word) else {
-            return Err(TicketFault::Refused);
+        let parts = match Parts::read(word) {
+            Ok(parts) => parts,
+            Err(at) => return Err(TicketFault::Shape { at }),
         };
-        if fields.range_fault().is_some() {
-            return Err(TicketFault::Refused);
+        if let Some(field) = parts.range_fault() {
+            return Err(TicketFault::Range { field });
         }
-        let Ok(field) = check_modulus(fields.m as u32, fields.low) else {
-            return Err(TicketFault::Refused);
+        let Ok(field) = check_modulus(parts.m as u32, parts.low) else {
+            return Err(TicketFault::NotIrreducible);
         };
-        if fields.generations() > 16384 {
-            return Err(TicketFault::Refused);
+        let generations = parts.generations();
+        if generations > u64::from(MAX_GENERATIONS) {
+            return Err(TicketFault::TooMany { generations });
         }
         Ok(Ticket {
-            session: fields.session,
-            code: fields.code(field),
-            length: fields.length,
+            session: parts.session,
+            code: parts.code(field),
+            length: parts.length,
+            generation_count: generations as u32,
         })
     }
 }
