@@ -1,0 +1,23 @@
+//! The exact decoder of the subspace code of Kötter and Kschischang, and the loss of a space against a codeword.
+//!
+//! A space decodes to the message whose codeword lies within subspace distance l - k of it; there is at most one. It is found
+//! by interpolation and a division of linearised polynomials (R. Kötter and F. R. Kschischang, "Coding for errors and erasures
+//! in random network coding", IEEE Trans. Inf. Theory 54(8), 2008, section V), and tested by its distance.
+#![tactic(auto)]
+
+mod candidate;
+mod decoder;
+mod divide;
+mod interpolate;
+pub mod laws;
+mod loss;
+mod part;
+mod scratch;
+mod spaces;
+
+pub use decoder::{decode, decode_space};
+pub use loss::{Loss, channel_loss};
+pub use scratch::Scratch;
+
+#[cfg(test)]
+mod tests;

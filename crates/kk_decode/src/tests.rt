@@ -1,0 +1,203 @@
+//! Worked spaces over small fields, with what a channel did to the codeword that was sent.
+ghost use Rattle.std.specs.Prelude.{◌≡◌, ◌^◌, ◌<◌, IsTrue, IfSome, All};
+ghost use Rattle.kk_rows.specs.Rows.{numbers};
+ghost use Rattle.kk_code.specs.Codeword.{IsMessage, width};
+ghost use Rattle.kk_code.specs.Decoding.{answer};
+
+use crate::{Loss, Scratch, channel_loss, decode, decode_space};
+use kk_code::{Code, Message, Ticket};
+use kk_field::Steps;
+use kk_rows::{Row, RowSpace};
+use std::marker::Brand;
+use std::sync::ledger::{Blank, Ledger};
+use std::test::Fail;
+
+/// What two received spaces decode to under one code.
+fn decoded<L: Ledger>(
+    code: &Code,
+    first: &RowSpace,
+    second: &RowSpace,
+    steps: &mut Steps<L>,
+) -> (Option<Message>, Option<Message>)
+    requires first_width { first.now.width ≡ width code.now }
+    requires second_width { second.now.width ≡ width code.now }
+    ensures first { result.0 ≡ answer code.now first.now.rows }
+    ensures second { result.1 ≡ answer code.now second.now.rows }
+{
+    let mut scratch = Scratch::new();
+    let one = decode_space(code, first, &mut scratch, steps);
+    let other = decode_space(code, second, &mut scratch, steps);
+    (one, other)
+}
+
+// Whether each row has at most l + m bits.
+fn are_rows_of(code: &Code, rows: &[Row]) -> bool
+    ensures { IsTrue result → All (λ r. r < 2 ^ width code.now) (numbers rows.now) }
+{
+    let width = code.width();
+    for row in rows {
+        if row.0 >> width != 0 {
+            return false;
+        }
+    }
+    true
+}
+
+// The message with these symbols, where they are one of the code.
+fn message(code: &Code, symbols: &[u64]) -> Option<Message>
+    ensures { IfSome result (IsMessage code.now) }
+{
+    let m = code.m();
+    for symbol in symbols {
+        if symbol >> m != 0 {
+            return None;
+        }
+    }
+    if symbols.len() != code.k() as usize {
+        return None;
+    }
+    Some(Message::from_slice(symbols))
+}
+
+// Whether the rows decode to the message with these symbols, or to none where there are no symbols.
+fn decodes_to<L: Ledger>(
+    code: &Code,
+    rows: &[Row],
+    symbols: &[u64],
+    scratch: &mut Scratch,
+    blank: Blank,
+) -> bool
+    requires name { blank.name ≡ L.name }
+    requires parts { blank.parts ≡ L.parts }
+    requires some { 0 < blank.parts }
+{
+    if !are_rows_of(code, rows) {
+        return false;
+    }
+    let mut steps: Steps<L> = Steps::new(blank);
+    match decode(code, rows, scratch, &mut steps) {
+        Some(u) => u.symbols() == symbols,
+        None => symbols.is_empty(),
+    }
+}
+
+fn loss_of<L: Ledger>(code: &Code, symbols: &[u64], rows: &[Row], blank: Blank) -> Option<Loss>
+    requires name { blank.name ≡ L.name }
+    requires parts { blank.parts ≡ L.parts }
+    requires some { 0 < blank.parts }
+{
+    let u = message(code, symbols)?;
+    if !are_rows_of(code, rows) {
+        return None;
+    }
+    let mut steps: Steps<L> = Steps::new(blank);
+    Some(channel_loss(code, &u, rows, &mut steps))
+}
+
+// Without loss, with losses, on the radius and one beyond it, few rows, an x-part of 0, no rows, all rows, radius 0: the
+// rows, the symbols that they decode to, those that were sent, and the erased and injected dimensions.
+#[test]
+fn worked_spaces_are_decoded(rt: HostRuntime) -> Result<(), Fail> {
+    let small = Ticket::read("kk1:00000001:3:0000000000000003:3:1:1")?.code();
+    let long = Ticket::read("kk1:00000001:4:0000000000000003:4:2:1")?.code();
+    let tight = Ticket::read("kk1:00000001:3:0000000000000003:2:2:1")?.code();
+    let mut scratch = Scratch::new();
+    for (code, rows, symbols, sent, erased, injected) in [
+        (
+            &small,
+            [Row(34), Row(17), Row(13), Row(13)].as_slice(),
+            [5].as_slice(),
+            [5].as_slice(),
+            0,
+            0,
+        ),
+        (
+            &small,
+            [Row(13), Row(17), Row(34)].as_slice(),
+            [5].as_slice(),
+            [5].as_slice(),
+            0,
+            0,
+        ),
+        (
+            &small,
+            [Row(9), Row(18), Row(8)].as_slice(),
+            [1].as_slice(),
+            [1].as_slice(),
+            1,
+            1,
+        ),
+        (
+            &small,
+            [Row(9), Row(8), Row(4)].as_slice(),
+            [].as_slice(),
+            [1].as_slice(),
+            2,
+            2,
+        ),
+        (
+            &small,
+            [Row(8)].as_slice(),
+            [0].as_slice(),
+            [0].as_slice(),
+            2,
+            0,
+        ),
+        (
+            &small,
+            [Row(1)].as_slice(),
+            [].as_slice(),
+            [0].as_slice(),
+            3,
+            1,
+        ),
+        (&small, [].as_slice(), [].as_slice(), [0].as_slice(), 3, 0),
+        (
+            &long,
+            [Row(16), Row(38), Row(71), Row(1)].as_slice(),
+            [1, 1].as_slice(),
+            [1, 1].as_slice(),
+            1,
+            1,
+        ),
+        (
+            &tight,
+            [Row(8), Row(22)].as_slice(),
+            [1, 1].as_slice(),
+            [1, 1].as_slice(),
+            0,
+            0,
+        ),
+        (
+            &tight,
+            [Row(8)].as_slice(),
+            [].as_slice(),
+            [1, 1].as_slice(),
+            1,
+            0,
+        ),
+        (
+            &small,
+            [Row(1), Row(2), Row(4), Row(8), Row(16), Row(32)].as_slice(),
+            [].as_slice(),
+            [1].as_slice(),
+            0,
+            3,
+        ),
+        (
+            &small,
+            [Row(9), Row(18), Row(36), Row(1), Row(2)].as_slice(),
+            [1].as_slice(),
+            [1].as_slice(),
+            0,
+            2,
+        ),
+    ] {
+        assert!(rt; decodes_to::<Brand>(code, rows, symbols, &mut scratch, Blank::new(1)));
+        assert_eq!(rt;
+            loss_of::<Brand>(code, sent, rows, Blank::new(1)),
+            Some(Loss { erased, injected })
+        );
+    }
+    Ok(())
+}
