@@ -1,6 +1,7 @@
 -- What callers see of a sink in memory.
-use Rattle.std.specs.Prelude.{◌⊎◌, ℕ, ◌-◌, ◌<◌, ◌≤◌, min, List, [], ◌++◌, length, take, Contains}
+use Rattle.std.specs.Prelude.{◌⊎◌, ℕ, ◌-◌, ◌<◌, ◌≤◌, min, List, [], ◌++◌, Some, length, take, Contains}
 use Rattle.kk_outside.specs.Causes.{one_more}
+use Rattle.kk_outside.specs.Sink.{SinkTold}
 
 -- It holds the bytes that were written, at most `room`, and takes at most `piece` a call.
 -- The calls whose numbers are in `fails` fail.
@@ -11,6 +12,10 @@ pub record SinkState : Type 0 where
   pub fails : List ℕ
   pub calls : ℕ
   pub faults : ℕ
+
+-- what it tells
+abbrev pub told : SinkState → SinkTold
+told s = record { written = Some s.written; faults = s.faults }
 
 -- before any call
 abbrev pub unwritten : ℕ → ℕ → List ℕ → SinkState

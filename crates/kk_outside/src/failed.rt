@@ -1,3 +1,4 @@
+//! The error of the outside.
 ghost use Rattle.std.specs.Prelude.{Some, codes};
 
 use std::error::Error;

@@ -1,8 +1,9 @@
-// A sink into memory, of so much room, which fails where it is told to.
-ghost use Rattle.std.specs.Prelude.{◌≡◌, ◌↔◌, ◌≤◌, Some, length, IsErr, IfOk, OnErr};
+//! A sink into memory, of so much room, which fails where it is told to.
+ghost use Rattle.std.specs.Prelude.{◌≡◌, ◌↔◌, ◌≤◌, length, IsErr, IfOk, OnErr};
 ghost use Rattle.kk_outside.specs.Causes.{HasCause};
-ghost use Rattle.kk_outside.specs.Writes.{WritesTo};
-ghost use Rattle.kk_outside.specs.SinkState.{unwritten, IsRefused, taken_count, after_write, after_failed_write};
+ghost use Rattle.kk_outside.specs.Change.{change};
+ghost use Rattle.kk_outside.specs.Sink.{WritesTo};
+ghost use Rattle.kk_outside.specs.SinkState.{told, unwritten, IsRefused, taken_count, after_write, after_failed_write};
 
 use crate::plan::Plan;
 use crate::{Alloc, Failed, Sink};
@@ -74,9 +75,7 @@ impl MemorySink {
 }
 
 impl Sink for MemorySink {
-    ghost written = { λ s. Some s.written };
-
-    ghost faults = { λ s. s.faults };
+    ghost told = { told };
 
     fn write(&mut self, piece: &[u8]) -> Result<usize, Failed>
         ensures fails { IsErr result ↔ IsRefused self.old piece.now }
@@ -85,7 +84,7 @@ impl Sink for MemorySink {
         ensures failed { OnErr result (self.new ≡ after_failed_write self.old) }
 
         // what every sink says
-        ensures writes { WritesTo (Some self.old.written) (Some self.new.written) result piece.now }
+        ensures writes { WritesTo (change (told self.old) (told self.new)) result piece.now }
         ensures cause { HasCause self.old.faults self.new.faults result }
     {
         self.plan.call()?;

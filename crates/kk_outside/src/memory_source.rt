@@ -1,10 +1,12 @@
-// A source over bytes in memory, which fails where it is told to.
-ghost use Rattle.std.specs.Prelude.{◌≡◌, ◌↔◌, ◌≤◌, ◌++◌, Some, length, take, drop, Contains, IsErr, IfOk, OnErr};
+//! A source over bytes in memory, which fails where it is told to.
+ghost use Rattle.std.specs.Prelude.{◌≡◌, ◌↔◌, ◌≤◌, ◌++◌, length, take, drop, Contains, IsErr, IfOk, OnErr};
 ghost use Rattle.kk_outside.specs.Causes.{HasCause};
-ghost use Rattle.kk_outside.specs.Reads.{ReadsFrom};
-ghost use Rattle.kk_outside.specs.SourceState.{unread, given_count, after_read, after_failed_read};
+ghost use Rattle.kk_outside.specs.Change.{change};
+ghost use Rattle.kk_outside.specs.Source.{ReadsFrom, read_of};
+ghost use Rattle.kk_outside.specs.SourceState.{told, unread, given_count, after_read, after_failed_read};
 
 use crate::plan::Plan;
+use crate::read_log::ReadLog;
 use crate::{Failed, Source};
 use std::marker::Model;
 
@@ -16,6 +18,7 @@ pub struct MemorySource {
     start: usize,
     piece: usize,
     plan: Plan,
+    log: ReadLog,
 }
 
 impl Model for MemorySource {
@@ -30,6 +33,7 @@ impl Model for MemorySource {
       fails = s.plan.fails.items;
       calls = s.plan.calls;
       faults = s.plan.faults;
+      reads = s.log;
     } };
 
     ghost invariant = { λ s. (s.start ≤ length s.bytes.items) × (1 ≤ s.piece) };
@@ -46,6 +50,7 @@ impl MemorySource {
             start: 0,
             piece,
             plan: Plan::new(fails),
+            log: ReadLog::new(),
         }
     }
 
@@ -58,27 +63,29 @@ impl MemorySource {
 }
 
 impl Source for MemorySource {
-    ghost left = { λ s. Some s.left };
-
-    ghost faults = { λ s. s.faults };
+    ghost told = { told };
 
     fn read(&mut self, buf: &mut [u8]) -> Result<usize, Failed>
         ensures fails { IsErr result ↔ Contains self.old.fails self.old.calls }
         ensures count { IfOk result (λ n. n ≡ given_count self.old (length buf.old)) }
         ensures bytes { IfOk result (λ n. buf.new ≡ take n self.old.left ++ drop n buf.old) }
-        ensures after { IfOk result (λ n. self.new ≡ after_read self.old n) }
+        ensures after { IfOk result (λ n. self.new ≡ after_read self.old n (read_of result buf.new)) }
         ensures untouched { OnErr result (buf.new ≡ buf.old) }
         ensures failed { OnErr result (self.new ≡ after_failed_read self.old) }
 
         // what every source says
-        ensures reads { ReadsFrom (Some self.old.left) (Some self.new.left) result buf.new }
+        ensures reads { ReadsFrom (change (told self.old) (told self.new)) result buf.new }
         ensures cause { HasCause self.old.faults self.new.faults result }
     {
-        self.plan.call()?;
+        if self.plan.call().is_err() {
+            self.log.add(Err(Failed), buf);
+            return Err(Failed);
+        }
         let left = &self.bytes[self.start..];
         let n = self.piece.min(buf.len()).min(left.len());
         buf[..n].copy_from_slice(&left[..n]);
         self.start += n;
+        self.log.add(Ok(n), buf);
         Ok(n)
     }
 }

@@ -1,4 +1,4 @@
-// Which calls are to fail, and how many calls and faults there were.
+//! Which calls are to fail, and how many calls and faults there were.
 ghost use Rattle.std.specs.Prelude.{◌≡◌, ◌↔◌, Contains, IsErr, OnOk, OnErr};
 ghost use Rattle.kk_outside.specs.Causes.{one_more};
 

@@ -1,28 +1,28 @@
-// A sink of bytes, and writes until a text is out.
-ghost use Rattle.std.specs.Prelude.{◌≡◌, ℕ, List, Option};
+//! A sink of bytes, and writes until a text is out.
+ghost use Rattle.std.specs.Prelude.{◌≡◌, []};
 ghost use Rattle.kk_outside.specs.Causes.{HasCause};
-ghost use Rattle.kk_outside.specs.Writes.{WritesTo, WritesAllTo};
+ghost use Rattle.kk_outside.specs.Change.{change};
+ghost use Rattle.kk_outside.specs.Sink.{SinkTold, WritesTo, WritesAllTo};
 
 use crate::Failed;
 
 /// Where bytes go.
 pub trait Sink {
-    /// The bytes that were written, or `None` where it doesn't tell them.
-    ghost written: { Self → Option (List ℕ) };
-
-    /// How often it has failed; the count stops at 2^64 - 1.
-    ghost faults: { Self → ℕ };
+    /// The bytes that were written, or `None` where it doesn't tell them; and how often it failed, a count that stops
+    /// at 2^64 - 1.
+    ghost told: { Self → SinkTold };
 
     /// Takes bytes from the front of `piece`, at least one unless it is empty, and answers how many.
     fn write(&mut self, piece: &[u8]) -> Result<usize, Failed>
-        ensures writes { WritesTo (written self.old) (written self.new) result piece.now }
-        ensures cause { HasCause (faults self.old) (faults self.new) result };
+        ensures writes { WritesTo (change (told self.old) (told self.new)) result piece.now }
+        ensures cause { HasCause (told self.old).faults (told self.new).faults result };
 }
 
-/// Writes all of `text`. After `Failed` a part from its front may be out.
+/// Writes all of `text`, with no call on the sink where it is empty. After `Failed` the sink has less than all of it.
 pub fn write_all<K: Sink>(sink: &mut K, text: &[u8]) -> Result<(), Failed>
-    ensures writes { WritesAllTo (K.written sink.old) (K.written sink.new) result text.now }
-    ensures cause { HasCause (K.faults sink.old) (K.faults sink.new) result }
+    ensures writes { WritesAllTo (change (K.told sink.old) (K.told sink.new)) result text.now }
+    ensures cause { HasCause (K.told sink.old).faults (K.told sink.new).faults result }
+    ensures nothing { text.now ≡ [] → sink.new ≡ sink.old }
 {
     let mut done = 0;
     while done < text.len() {

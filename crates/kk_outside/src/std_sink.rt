@@ -1,10 +1,13 @@
-// A sink over any writer of std.
-ghost use Rattle.std.specs.Prelude.{◌≡◌, None, OnErr};
+//! A sink over any writer of std.
+ghost use Rattle.std.specs.Prelude.{◌≡◌, ◌↔◌, ◌⊎◌, ◌<◌, None, Ok, length, IfOk, IsErr, OnErr};
 ghost use Rattle.std.specs.Io.KnownBytes.{WriteAppends};
 ghost use Rattle.kk_outside.specs.Causes.{HasCause, one_more};
-ghost use Rattle.kk_outside.specs.Writes.{WritesTo};
+ghost use Rattle.kk_outside.specs.Change.{change};
+ghost use Rattle.kk_outside.specs.Sink.{WritesTo};
+ghost use Rattle.kk_outside.specs.StdState.{sink_told};
 
 use crate::{Failed, Sink};
+use std::io;
 use std::io::Write;
 use std::marker::Model;
 
@@ -17,9 +20,9 @@ pub struct StdSink<W: Write> {
 }
 
 impl<W: Write> Model for StdSink<W> {
-    ghost use Rattle.kk_outside.specs.EdgeState.{EdgeState};
+    ghost use Rattle.kk_outside.specs.StdState.{StdSinkState};
 
-    ghost Value = { EdgeState };
+    ghost Value = { StdSinkState };
 
     ghost view = { λ s. record { known = W.contents s.writer; faults = s.faults } };
 }
@@ -42,24 +45,34 @@ impl<W: Write> StdSink<W> {
 }
 
 impl<W: Write> Sink for StdSink<W> {
-    ghost written = { λ _. None };
-
-    ghost faults = { λ s. s.faults };
+    ghost told = { sink_told };
 
     fn write(&mut self, piece: &[u8]) -> Result<usize, Failed>
         ensures writer { WriteAppends self.old.known self.new.known result piece.now }
         ensures failed { OnErr result (self.new.faults ≡ one_more self.old.faults) }
 
         // what every sink says
-        ensures writes { WritesTo None None result piece.now }
+        ensures writes { WritesTo (change (sink_told self.old) (sink_told self.new)) result piece.now }
         ensures cause { HasCause self.old.faults self.new.faults result }
     {
-        match self.writer.write(piece) {
-            Ok(n) if n > 0 || piece.is_empty() => Ok(n),
-            _ => {
-                self.faults = self.faults.saturating_add(1);
-                Err(Failed)
-            }
+        let outcome = self.writer.write(piece);
+        answer(outcome, piece, &mut self.faults)
+    }
+}
+
+/// The answer to a write that came out so: an error is a fault, and so is a write that took nothing of a piece that
+/// isn't empty; nothing else is.
+fn answer(outcome: io::Result<usize>, piece: &[u8], faults: &mut u64) -> Result<usize, Failed>
+    ensures fails { IsErr result ↔ (IsErr outcome ⊎ ((outcome ≡ Ok 0) × (0 < length piece.now))) }
+    ensures same { IfOk result (λ n. outcome ≡ Ok n) }
+    ensures counted { OnErr result (faults.new ≡ one_more faults.old) }
+    ensures cause { HasCause faults.old faults.new result }
+{
+    match outcome {
+        Ok(n) if n > 0 || piece.is_empty() => Ok(n),
+        _ => {
+            *faults = faults.saturating_add(1);
+            Err(Failed)
         }
     }
 }
@@ -68,7 +81,6 @@ impl<W: Write> Sink for StdSink<W> {
 mod tests {
     use super::*;
     use crate::write_all;
-    use std::io;
     use std::test::Fail;
 
     #[derive(Drop)]

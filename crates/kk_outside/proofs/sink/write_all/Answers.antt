@@ -10,4 +10,5 @@ loop-done-preserved g c =
       within = grind arith;
       written = written_more _ _ _ c.args.text.now c.loop-done.done c.in_ok-done.field-0 sofar h.taken;
       same = c.in_ok-done.ensures.cause.kept ∙ c.loop-done.invariant.same;
+      unchanged = λ none. absurd (omega (arith, none, c.loop-done-test.true));
     }

@@ -5,8 +5,9 @@ use Rattle.kk_outside.proofs.sink.write_all.Given as goal
 abbrev pub invariant-loop-done : goal.invariant-loop-done
 invariant-loop-done g l = record {
   within : l.done ≤ length l.text;
-  written : g.K.Sink.written l.sink ≡ append_known (g.K.Sink.written l.fn.sink) (take l.done l.text);
-  same : g.K.Sink.faults l.sink ≡ g.K.Sink.faults l.fn.sink;
+  written : (g.K.Sink.told l.sink).written ≡ append_known (g.K.Sink.told l.fn.sink).written (take l.done l.text);
+  same : (g.K.Sink.told l.sink).faults ≡ (g.K.Sink.told l.fn.sink).faults;
+  unchanged : length l.text ≡ 0 → l.sink ≡ l.fn.sink;
 }
 
 abbrev pub decreases-loop-done : goal.decreases-loop-done

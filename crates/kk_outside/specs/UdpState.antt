@@ -1,0 +1,38 @@
+-- What callers see of a gate and an outlet over a socket.
+use Rattle.std.specs.Prelude.{ℕ, Bool, true, false, List, None}
+use Rattle.std.specs.declared.io.ErrorKind.{ErrorKind}
+use Rattle.std.specs.declared.io.ErrorKind.TheVariants.{WouldBlock, TimedOut, Interrupted, OutOfMemory}
+use Rattle.kk_outside.specs.declared.event.Event.{Event}
+use Rattle.kk_outside.specs.Gate.{GateTold}
+use Rattle.kk_outside.specs.Outlet.{OutletTold}
+
+-- the events that the gate told so far, and how often it failed
+pub record UdpGateState : Type 0 where
+  pub events : List Event
+  pub faults : ℕ
+
+-- whether the outlet has a socket, and how often it failed
+pub record UdpOutletState : Type 0 where
+  pub has_socket : Bool
+  pub faults : ℕ
+
+-- what they tell as a gate and an outlet
+abbrev pub gate_told : UdpGateState → GateTold
+gate_told s = record { left = None; events = s.events; faults = s.faults }
+
+abbrev pub outlet_told : UdpOutletState → OutletTold
+outlet_told s = record { sent = None; faults = s.faults }
+
+-- a receive brought no datagram: none came in time, or a signal ended the wait
+abbrev pub is_wait_end : ErrorKind → Bool
+is_wait_end WouldBlock = true
+is_wait_end TimedOut = true
+is_wait_end Interrupted = true
+is_wait_end _ = false
+
+-- a send found no room at the moment, or a signal interrupted it
+abbrev pub is_passing : ErrorKind → Bool
+is_passing WouldBlock = true
+is_passing Interrupted = true
+is_passing OutOfMemory = true
+is_passing _ = false

@@ -1,0 +1,158 @@
+//! A gate over a UDP socket.
+ghost use Rattle.std.specs.Prelude.{◌≡◌, [], IsErr, IfOk, IfErr, OnErr};
+ghost use Rattle.std.specs.Bool.{OnTrue, OnFalse};
+ghost use Rattle.std.specs.Io.{ReadsAtMost};
+ghost use Rattle.std.specs.IoError.{error_kind};
+ghost use Rattle.kk_outside.specs.Causes.{HasCause, one_more};
+ghost use Rattle.kk_outside.specs.Change.{change};
+ghost use Rattle.kk_outside.specs.Gate.{TellsFrom};
+ghost use Rattle.kk_outside.specs.UdpState.{gate_told, is_wait_end};
+
+use crate::event_log::EventLog;
+use crate::open_fault::open_fault;
+use crate::{Failed, GATE_BYTES, Gate, Got, OpenFault};
+use std::alloc::Global;
+use std::io;
+use std::io::ErrorKind;
+use std::marker::Model;
+use std::net::{Net, UdpSocket};
+use std::time::Duration;
+
+/// How long a call waits for a datagram, in milliseconds.
+const WAIT_MILLIS: u64 = 100;
+
+/// How often a receive that a signal interrupts is made again.
+const TRIES: u32 = 10;
+
+/// Tells the datagrams that come to a UDP socket, and never that they are over. A call that gets none within 100 ms
+/// tells a quiet, and so does one that signals interrupt again and again. Each other error of the socket is a fault.
+#[derive(Drop)]
+pub struct UdpGate {
+    socket: UdpSocket,
+    log: EventLog,
+    faults: u64,
+}
+
+impl Model for UdpGate {
+    ghost use Rattle.kk_outside.specs.UdpState.{UdpGateState};
+
+    ghost Value = { UdpGateState };
+
+    ghost view = { λ g. record { events = g.log; faults = g.faults } };
+}
+
+impl UdpGate {
+    /// A gate at this address, as `127.0.0.1:9000`. It takes no memory but the system's.
+    pub fn open<R: Net>(rt: &R, _alloc: Global, address: &str) -> Result<UdpGate, OpenFault>
+        ensures { IfOk result (λ g. g ≡ record { events = []; faults = 0 }) }
+    {
+        match bind(rt, address) {
+            Ok(socket) => Ok(UdpGate {
+                socket,
+                log: EventLog::new(),
+                faults: 0,
+            }),
+            Err(e) => Err(open_fault(e)),
+        }
+    }
+
+    /// How many calls failed; the count stops at 2^64 - 1.
+    pub fn faults(&self) -> u64
+        ensures { result ≡ self.now.faults }
+    {
+        self.faults
+    }
+}
+
+/// A socket at this address, which waits so long for a datagram and no longer.
+fn bind<R: Net>(rt: &R, address: &str) -> io::Result<UdpSocket> {
+    let socket = UdpSocket::bind(rt, address)?;
+    socket.set_read_timeout(Some(Duration::from_millis(WAIT_MILLIS)))?;
+    Ok(socket)
+}
+
+impl Gate for UdpGate {
+    ghost told = { gate_told };
+
+    fn next(&mut self, buf: &mut [u8; GATE_BYTES]) -> Result<Got, Failed>
+        ensures never_over { IfOk result (λ got. ¬ (got ≡ Got.Over)) }
+        ensures failed { OnErr result (self.new.faults ≡ one_more self.old.faults) }
+
+        // what every gate says
+        ensures tells { TellsFrom (change (gate_told self.old) (gate_told self.new)) result buf.new }
+        ensures cause { HasCause self.old.faults self.new.faults result }
+    {
+        let outcome = receive(&self.socket, buf);
+        let answer = answer(outcome, &mut self.faults);
+        self.log.add(answer, buf);
+        answer
+    }
+}
+
+/// One datagram, into the front of `buf`. A receive that a signal interrupts is made again, up to a bound.
+fn receive(socket: &UdpSocket, buf: &mut [u8]) -> io::Result<usize>
+    ensures { ReadsAtMost result buf.new }
+{
+    for _ in 0..TRIES {
+        match socket.recv(buf) {
+            Err(e) if e.kind() == ErrorKind::Interrupted => {}
+            outcome => return outcome,
+        }
+    }
+    socket.recv(buf)
+}
+
+/// The answer to a receive that came out so: an error that says that none came is a quiet, each other one a fault.
+fn answer(outcome: io::Result<usize>, faults: &mut u64) -> Result<Got, Failed>
+    ensures datagram { IfOk outcome (λ n. result ≡ Ok (Got.Datagram n)) }
+    ensures quiet { IfErr outcome (λ e. OnTrue (is_wait_end (error_kind e)) (result ≡ Ok Got.Quiet)) }
+    ensures fault { IfErr outcome (λ e. OnFalse (is_wait_end (error_kind e)) (IsErr result)) }
+    ensures never_over { IfOk result (λ got. ¬ (got ≡ Got.Over)) }
+    ensures counted { OnErr result (faults.new ≡ one_more faults.old) }
+    ensures cause { HasCause faults.old faults.new result }
+{
+    match outcome {
+        Ok(n) => Ok(Got::Datagram(n)),
+        Err(e) if ended_wait(&e) => Ok(Got::Quiet),
+        Err(_) => {
+            *faults = faults.saturating_add(1);
+            Err(Failed)
+        }
+    }
+}
+
+/// Whether a receive with this error got no datagram, and no more: it waited for as long as it may, or a signal ended the
+/// wait.
+fn ended_wait(e: &io::Error) -> bool
+    ensures { result ≡ is_wait_end (error_kind e.now) }
+{
+    matches!(
+        e.kind(),
+        ErrorKind::WouldBlock | ErrorKind::TimedOut | ErrorKind::Interrupted
+    )
+}
+
+#[cfg(test)]
+mod tests {
+    use super::*;
+    use std::test::Fail;
+
+    #[test]
+    fn tells_what_comes_over_loopback(rt: HostRuntime) -> Result<(), Fail> {
+        let alloc = rt.alloc();
+        let mut gate = UdpGate::open(&rt, alloc, "127.0.0.1:0")?;
+        let address = gate.socket.local_addr()?;
+        let sender = UdpSocket::bind(&rt, "127.0.0.1:0")?;
+        let mut buf = [0; GATE_BYTES];
+        sender.send_to(&[1, 2, 3], address)?;
+        assert_eq!(rt; gate.next(&mut buf), Ok(Got::Datagram(3)));
+        assert_eq!(rt; &buf[..4], [1, 2, 3, 0].as_slice());
+        sender.send_to(&[7; 700], address)?;
+        assert_eq!(rt; gate.next(&mut buf), Ok(Got::Datagram(GATE_BYTES)));
+        assert_eq!(rt; gate.next(&mut buf), Ok(Got::Quiet));
+        assert_eq!(rt; gate.faults(), 0);
+        let refused = UdpGate::open(&rt, alloc, "127.0.0.1");
+        assert_eq!(rt; refused.err(), Some(OpenFault::Cannot));
+        Ok(())
+    }
+}
