@@ -1,1 +1,5 @@
 pub mod Texts
+pub mod Readings
+pub mod Stops
+pub mod Intakes
+pub mod Captures

@@ -14,7 +14,16 @@ use Rattle.kk_code.specs.TicketText.{IsTicket}
 use Rattle.kk_frame.specs.declared.fault.FrameFault.{FrameFault}
 use Rattle.kk_frame.specs.declared.fault.FrameFault.TheVariants.{Magic, Version, Kind, Session, Generation, Row, EndRow}
 use Rattle.kk_frame.specs.Frame.{FrameValue, Vector, End, IsFrame, header, frame_text, kind_in, session_in, generation_in, row_in, data_fault, end_fault, frame_in, frame_fault, frame_read}
-use Rattle.kk_frame.specs.Laws.{FitsFrames, AreFrameBytes}
+use Rattle.kk_frame.specs.Laws.{AreFrameBytes}
+
+-- a ticket whose numbers fit the parts of a frame
+record FitsFrames (t : TicketFields) : Type 0 where
+  session : t.session < 2 ^ 32
+  generations : generations t ≤ 2 ^ 14
+  width : width t.code ≤ 63
+
+ticket_fits : (t : TicketFields) → IsTicket t → FitsFrames t
+ticket_fits t ticket = record { session = ticket.session; generations = ticket.few; width = ticket.code.wide }
 
 -- the bytes before the numbers, and the session
 pub record HasHeader (t : TicketFields) (kind : ℕ) (bytes : List ℕ) : Type 0 where
@@ -36,7 +45,7 @@ unfolding frame_read frame_fault
 read_again t bytes (Vector generation row) has is = grind (arith, nat_tests)
 read_again t bytes End has is = grind (arith, nat_tests)
 
-pub text_fields : (t : TicketFields) (frame : FrameValue) → FitsFrames t → IsFrame t frame → HasFields t (frame_text t frame) frame
+text_fields : (t : TicketFields) (frame : FrameValue) → FitsFrames t → IsFrame t frame → HasFields t (frame_text t frame) frame
 unfolding frame_text
 text_fields t (Vector generation row) fits is =
     let wide : 2 ^ width t.code ≤ 2 ^ 63 = pow-le-pow_right {n = 2} (omega arith) fits.width in (
@@ -189,20 +198,17 @@ fields_text t bytes End are has = text_from_fields t 1 0 0 bytes are has.0 has.1
 
 -- ---- the laws
 
-pub ticket_fits : (t : TicketFields) → IsTicket t → FitsFrames t
-ticket_fits t ticket = record { session = ticket.session; generations = ticket.few; width = ticket.code.wide }
-
 pub text_from_frame : (t : TicketFields) (bytes : List ℕ) (frame : FrameValue) → AreFrameBytes bytes → frame_read t bytes ≡ Ok frame → IsFrame t frame × (bytes ≡ frame_text t frame)
 text_from_frame t bytes frame are read =
     let has = fields_read t bytes frame read in
     (has.1, fields_text t bytes frame are has.0)
 
-pub frame_from_text : (t : TicketFields) (bytes : List ℕ) (frame : FrameValue) → FitsFrames t → IsFrame t frame × (bytes ≡ frame_text t frame) → frame_read t bytes ≡ Ok frame
-frame_from_text t bytes frame fits is =
-    rw is.1 (read_again t (frame_text t frame) frame (text_fields t frame fits is.0) is.0)
+pub frame_from_text : (t : TicketFields) (bytes : List ℕ) (frame : FrameValue) → IsTicket t → IsFrame t frame × (bytes ≡ frame_text t frame) → frame_read t bytes ≡ Ok frame
+frame_from_text t bytes frame ticket is =
+    rw is.1 (read_again t (frame_text t frame) frame (text_fields t frame (ticket_fits t ticket) is.0) is.0)
 
-pub same_frames : (t : TicketFields) (one other : FrameValue) → FitsFrames t → IsFrame t one → IsFrame t other → frame_text t one ≡ frame_text t other → one ≡ other
-same_frames t one other fits is_one is_other same =
-    let read_one : frame_read t (frame_text t one) ≡ Ok one = frame_from_text t (frame_text t one) one fits (is_one, refl) in
-    let read_other : frame_read t (frame_text t one) ≡ Ok other = frame_from_text t (frame_text t one) other fits (is_other, same) in
+pub same_frames : (t : TicketFields) (one other : FrameValue) → IsTicket t → IsFrame t one → IsFrame t other → frame_text t one ≡ frame_text t other → one ≡ other
+same_frames t one other ticket is_one is_other same =
+    let read_one : frame_read t (frame_text t one) ≡ Ok one = frame_from_text t (frame_text t one) one ticket (is_one, refl) in
+    let read_other : frame_read t (frame_text t one) ≡ Ok other = frame_from_text t (frame_text t one) other ticket (is_other, same) in
     cc

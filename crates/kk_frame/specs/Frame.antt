@@ -38,7 +38,7 @@ generation_in bytes = from_be_bytes w32 (slice_range bytes 8 12)
 abbrev pub row_in : List ℕ → ℕ
 row_in bytes = from_be_bytes w64 (slice_range bytes 12 20)
 
--- the rules for the bytes behind the session
+-- the rules for the bytes after the session
 abbrev pub data_fault : TicketFields → List ℕ → Option FrameFault
 data_fault t bytes =
     if nat_lt (generation_in bytes) (generations t) then (if nat_lt (row_in bytes) (2 ^ width t.code) then None else Some Row)

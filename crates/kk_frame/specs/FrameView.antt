@@ -1,5 +1,6 @@
 -- A frame of the program as a frame of the definitions.
-use Rattle.std.specs.Prelude.{Result, Ok, Err}
+use Rattle.std.specs.Prelude.{ℕ, Result, Ok, Err, List, map}
+use Rattle.kk_rows.specs.declared.rows.Row.{Row}
 use Rattle.kk_frame.specs.declared.fault.FrameFault.{FrameFault}
 use Rattle.kk_frame.specs.declared.frame.Frame.{Frame}
 use Rattle.kk_frame.specs.declared.frame.Frame.TheVariants as variants
@@ -13,3 +14,7 @@ value variants.End = End
 abbrev pub values : Result Frame FrameFault → Result FrameValue FrameFault
 values (Ok frame) = Ok (value frame)
 values (Err fault) = Err fault
+
+-- generations and rows of the program, seen as numbers
+abbrev pub pairs : List (ℕ × Row) → List (ℕ × ℕ)
+pairs frames = map (λ f. (f.0, f.1.0)) frames

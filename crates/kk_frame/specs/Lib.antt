@@ -1,5 +1,11 @@
 pub mod Frame
 pub mod FrameView
+pub mod Datagram
+pub mod Events
+pub mod Counting
+pub mod Intake
+pub mod Capture
 pub mod Laws
 pub mod Gate
 pub mod FrameExamples
+pub mod EventExamples

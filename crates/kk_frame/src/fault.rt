@@ -1,4 +1,6 @@
-/// Why 20 bytes are no frame of a ticket: the first rule, from the front of the frame, that they break.
+//! What is wrong with a piece that is no frame.
+
+/// Why a piece is no frame of a ticket: the first rule, from its front, that it breaks.
 #[derive(Clone, Copy, Debug, PartialEq, Eq, Hash)]
 pub enum FrameFault {
     /// The first two bytes aren't `KK`.
@@ -13,6 +15,6 @@ pub enum FrameFault {
     Generation,
     /// A data frame's row isn't below 2^(l+m).
     Row,
-    /// An END frame has a 1 behind its session.
+    /// An END frame has a 1 after its session.
     EndRow,
 }

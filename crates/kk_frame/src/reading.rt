@@ -1,3 +1,4 @@
+//! Reads a frame.
 ghost use Rattle.std.specs.Prelude.{◌≡◌, ◌<◌, ◌^◌, IfOk};
 ghost use Rattle.kk_code.specs.Ticket.{generations};
 ghost use Rattle.kk_code.specs.Codeword.{width};
@@ -5,23 +6,26 @@ ghost use Rattle.kk_frame.specs.Frame.{IsFrame, session_in, generation_in, row_i
 ghost use Rattle.kk_frame.specs.FrameView.{value, values};
 
 use crate::frame::{DATA, END, VERSION};
-use crate::{Frame, FrameFault};
+use crate::{FRAME_BYTES, Frame, FrameFault};
 use kk_code::Ticket;
 use kk_rows::Row;
 
-fn session_of(bytes: &[u8; 20]) -> u32
+/// The session in the bytes.
+fn session_of(bytes: &[u8; FRAME_BYTES]) -> u32
     ensures { result ≡ session_in bytes.now }
 {
     u32::from_be_bytes([bytes[4], bytes[5], bytes[6], bytes[7]])
 }
 
-fn generation_of(bytes: &[u8; 20]) -> u32
+/// The generation in the bytes.
+fn generation_of(bytes: &[u8; FRAME_BYTES]) -> u32
     ensures { result ≡ generation_in bytes.now }
 {
     u32::from_be_bytes([bytes[8], bytes[9], bytes[10], bytes[11]])
 }
 
-fn row_of(bytes: &[u8; 20]) -> u64
+/// The row in the bytes.
+fn row_of(bytes: &[u8; FRAME_BYTES]) -> u64
     ensures { result ≡ row_in bytes.now }
 {
     u64::from_be_bytes([
@@ -29,11 +33,15 @@ fn row_of(bytes: &[u8; 20]) -> u64
     ])
 }
 
-/// The frame of the ticket that the bytes are, or the first rule, from the front, that they break.
+/// The frame of the ticket that the bytes are.
 ///
-/// An END has only zeros behind its session.
+/// An END has only zeros after its session.
+///
+/// # Errors
+///
+/// The first rule, from the front, that the bytes break.
 #[tactic(auto, unfolding(crate::specs::Frame::frame_read, crate::specs::Frame::frame_fault))]
-pub fn read_frame(bytes: &[u8; 20], ticket: &Ticket) -> Result<Frame, FrameFault>
+pub fn read_frame(bytes: &[u8; FRAME_BYTES], ticket: &Ticket) -> Result<Frame, FrameFault>
     ensures exact { frame_read ticket.now bytes.now ≡ values result }
     ensures in_range { IfOk result (λ frame. IsFrame ticket.now (value frame)) }
 {

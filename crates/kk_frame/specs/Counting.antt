@@ -1,0 +1,47 @@
+-- One datagram more in the counts of a gate.
+use Rattle.std.specs.Prelude.{◌≡◌, ℕ, ◌+◌, ◌≤◌, List}
+use Rattle.kk_frame.specs.declared.fault.FrameFault.{FrameFault}
+use Rattle.kk_frame.specs.declared.fault.FrameFault.TheVariants.{Magic, Version, Kind, Session, Generation, Row, EndRow}
+use Rattle.kk_frame.specs.declared.gate_count.Refused.{Refused}
+use Rattle.kk_frame.specs.declared.received.Received.{Received}
+use Rattle.kk_frame.specs.Datagram.{Reading, has_end, data_frames}
+use Rattle.kk_frame.specs.Events.{refused_of}
+
+-- one piece more that breaks this rule
+abbrev pub one_more : FrameFault → Refused → Refused
+one_more Magic r = record r { magic = r.magic + 1 }
+one_more Version r = record r { version = r.version + 1 }
+one_more Kind r = record r { kind = r.kind + 1 }
+one_more Session r = record r { session = r.session + 1 }
+one_more Generation r = record r { generation = r.generation + 1 }
+one_more Row r = record r { row = r.row + 1 }
+one_more EndRow r = record r { endrow = r.endrow + 1 }
+
+abbrev pub sum_of : Refused → Refused → Refused
+sum_of a b = record {
+  badlength = a.badlength + b.badlength;
+  magic = a.magic + b.magic;
+  version = a.version + b.version;
+  kind = a.kind + b.kind;
+  session = a.session + b.session;
+  generation = a.generation + b.generation;
+  row = a.row + b.row;
+  endrow = a.endrow + b.endrow;
+}
+
+-- each count is at most n
+pub record IsAtMost (n : ℕ) (r : Refused) : Type 0 where
+  pub badlength : r.badlength ≤ n
+  pub magic : r.magic ≤ n
+  pub version : r.version ≤ n
+  pub kind : r.kind ≤ n
+  pub session : r.session ≤ n
+  pub generation : r.generation ≤ n
+  pub row : r.row ≤ n
+  pub endrow : r.endrow ≤ n
+
+-- the datagram gave these readings; badlength is 1 where its length is wrong
+pub record HasReadings (badlength : ℕ) (rs : List Reading) (r : Received) : Type 0 where
+  pub batch : r.batch ≡ data_frames rs
+  pub refused : r.refused ≡ refused_of badlength rs
+  pub end : r.has_end ≡ has_end rs
