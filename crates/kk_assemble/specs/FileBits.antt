@@ -5,7 +5,7 @@ use Rattle.std.specs.Int.{bit_at}
 use Rattle.kk_code.specs.Codeword.{Parameters}
 use Rattle.kk_code.specs.Ticket.{message_bits}
 
--- bit t of a file: bit 7 - t % 8 of byte t / 8, and 0 behind the end
+-- bit t of a file: bit 7 - t % 8 of byte t / 8, and 0 after the end
 abbrev pub file_bit : List ℕ → ℕ → ℕ
 file_bit file t = bit_at (slice_index file (t / 8)) (7 - t % 8)
 

@@ -7,7 +7,7 @@ pub first_message : cut one_byte.code (160 ∷ []) 0 ≡ 5 ∷ []
 unfolding number_from
 first_message = refl
 
--- behind the end of the file the bits are 0
+-- after the end of the file the bits are 0
 pub last_message : cut one_byte.code (160 ∷ []) 2 ≡ 0 ∷ []
 unfolding number_from
 last_message = refl

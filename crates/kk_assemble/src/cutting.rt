@@ -6,7 +6,7 @@ ghost use Rattle.kk_assemble.specs.FileBits.{file_bit, number_from, cut};
 
 use kk_code::{Message, Ticket};
 
-/// Bit `t` of a file, and 0 behind its end.
+/// Bit `t` of a file, and 0 after its end.
 fn bit_of(file: &[u8], t: u64) -> u8
     ensures { result ≡ file_bit file.now t }
 {
@@ -16,7 +16,7 @@ fn bit_of(file: &[u8], t: u64) -> u8
     }
 }
 
-/// The `m` bits of a file from bit `at` on.
+/// The number that the `m` bits of a file from bit `at` on make, the first the most significant.
 fn symbol_of(file: &[u8], at: u64, m: u32) -> u64
     requires bits { m ≤ 62 }
     requires fits { at + m < 2 ^ 64 }
@@ -29,7 +29,7 @@ fn symbol_of(file: &[u8], at: u64, m: u32) -> u64
     symbol
 }
 
-/// The message of a generation of a file. The bits behind the file's end are zeros.
+/// The message of a generation of a file. The bits after the file's end are zeros.
 pub fn cut(file: &[u8], ticket: &Ticket, generation: u32) -> Message
     requires whole { length file.now ≡ ticket.now.length }
     requires in_range { generation < generations ticket.now }

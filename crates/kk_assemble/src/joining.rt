@@ -32,7 +32,7 @@ fn bit_of(answers: &[Option<Message>], code: &Code, t: u64) -> u8
     ((symbol >> (m - 1 - in_message % m)) % 2) as u8
 }
 
-/// The eight bits of the messages from bit `at` on.
+/// The byte that the eight bits of the messages from bit `at` on make.
 fn byte_of(answers: &[Option<Message>], code: &Code, at: u64) -> u8
     requires in_range { at + 8 ≤ message_bits code.now * length answers.now }
     requires fits { at + 8 < 2 ^ 64 }

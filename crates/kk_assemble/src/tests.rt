@@ -1,3 +1,4 @@
+//! Files of one byte, in messages worked out by hand.
 ghost use Rattle.std.specs.Prelude.{◌≡◌, ◌<◌, length, All, IfSome, IfOk};
 ghost use Rattle.kk_code.specs.Codeword.{IsMessage};
 ghost use Rattle.kk_code.specs.Ticket.{generations};
@@ -6,6 +7,16 @@ use super::*;
 use kk_code::{Message, Ticket};
 use std::process::Abort;
 use std::test::*;
+
+/// Writes what the one message of a short file says of it.
+fn through(file: &[u8], ticket: &Ticket, out: &mut [u8]) -> bool
+    requires whole { length file.now ≡ ticket.now.length }
+    requires room { length out.old ≡ ticket.now.length }
+    requires one { generations ticket.now ≡ 1 }
+{
+    let message = cut(file, ticket, 0);
+    join(&[Some(message)], ticket, out)
+}
 
 /// The ticket of a file of one byte: three messages of one symbol of three bits.
 fn one_byte(rt: &impl Abort) -> Result<Ticket, Fail>
@@ -62,7 +73,7 @@ fn one_byte_in_three_messages(rt: HostRuntime) -> Result<(), Fail> {
             "generation {generation}"
         );
     }
-    // The last of its nine bits lies behind the file.
+    // The last of its nine bits lies after the file.
     for (generation, symbol) in [(0, 7), (1, 7), (2, 6)] {
         let message = cut(&[0xFF], &ticket, generation);
         assert_eq!(rt;
@@ -91,5 +102,16 @@ fn a_missing_message_leaves_the_file(rt: HostRuntime) -> Result<(), Fail> {
     let mut file = [9];
     assert!(rt; !join_symbols(5, None, 0, &ticket, &mut file));
     assert_eq!(rt; file, [9]);
+    Ok(())
+}
+
+#[test]
+fn one_message_is_its_file(rt: HostRuntime) -> Result<(), Fail> {
+    let ticket = Ticket::read("kk1:00000001:8:000000000000001b:4:1:1")?;
+    assert_eq!(rt; ticket.length(), 1);
+    assert_eq!(rt; ticket.generations(), 1);
+    let mut file = [0];
+    assert!(rt; through(&[0x51], &ticket, &mut file));
+    assert_eq!(rt; file, [0x51]);
     Ok(())
 }
