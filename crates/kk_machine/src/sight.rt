@@ -1,5 +1,5 @@
 //! What is known of one generation: its rows in order, their span, and whether its log is closed.
-ghost use Rattle.std.specs.Prelude.{◌≡◌, ◌≤◌, ◌<◌, ◌^◌, length, not, false, true};
+ghost use Rattle.std.specs.Prelude.{◌≡◌, ℕ, ◌≤◌, ◌<◌, ◌^◌, length, not, false, true};
 ghost use Rattle.kk_rows.specs.Span.{in_span};
 ghost use Rattle.kk_rows.specs.Rows.{numbers};
 ghost use Rattle.kk_rows.specs.declared.row_space.TheConstants.{MAX_WIDTH};
@@ -62,6 +62,14 @@ impl Sight {
         ensures log { IsLog self.now.width self.now.log }
     {
         &self.rows[..self.len as usize]
+    }
+
+    /// The span of the rows.
+    pub fn space(&self) -> &RowSpace
+        ensures width { result.now.width ≡ self.now.width }
+        ensures span { (x : ℕ) → in_span result.now.rows x ≡ in_span self.now.log.rows x }
+    {
+        &self.space
     }
 
     /// Whether the log is known to be closed.

@@ -1,0 +1,10 @@
+pub mod Places
+pub mod Owns
+pub mod Tries
+pub mod Seats
+pub mod Aims
+pub mod Storages
+pub mod Passes
+pub mod Calls
+pub mod LogReads
+pub mod Finishes

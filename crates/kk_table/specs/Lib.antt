@@ -1,0 +1,7 @@
+pub mod Places
+pub mod Rule
+pub mod Pass
+pub mod Answers
+pub mod Founder
+pub mod Logs
+pub mod Table

@@ -1,0 +1,134 @@
+//! Who gives the passes of a table, and takes them back.
+ghost use Rattle.std.specs.Prelude.{◌≡◌, ◌+◌, ◌-◌, ◌<◌, ◌≤◌, ◌↔◌, length, Err, All, IsOk, IfOk, OnOk, OnErr};
+ghost use Rattle.kk_rows.specs.declared.row_space.TheConstants.{MAX_WIDTH};
+ghost use Rattle.kk_table.specs.Rule.{newcomer};
+ghost use Rattle.kk_table.specs.Founder.{IsSpare, founder_reserved, founder_gave, founder_took};
+
+use super::rule::{Count, Given, Taken};
+use super::{GenTable, NoPass, Pass, Shape, View};
+use atomic_table::Seat;
+use kk_machine::Sight;
+use kk_rows::Alloc;
+use std::alloc::Global;
+use std::marker::Model;
+
+/// Who gives the passes of a table, and takes them back.
+///
+/// Clauses see its table, how many passes it may give and has given, for how many storage is reserved, and the records
+/// of the passes that were taken back: all that each of them knew.
+#[derive(Drop)]
+pub struct Founder {
+    pub(crate) seat: Seat<(), View>,
+    pub(crate) shape: Shape,
+    pub(crate) passes: u32,
+    pub(crate) given: u32,
+    pub(crate) taken: u32,
+    pub(crate) spare: Vec<Vec<Sight>>,
+}
+
+impl Model for Founder {
+    ghost use Rattle.std.specs.Prelude.{length};
+    ghost use Rattle.kk_table.specs.Founder.{FounderView, records_in, IsFounder};
+
+    ghost Value = { FounderView };
+
+    ghost view = { λ f. record { table = record { id = f.seat.table_id; shape = f.shape }; passes = f.passes; given = f.given; records = records_in f.seat.me.0; spare = length f.spare.items } };
+
+    ghost invariant = { λ f. IsFounder f.shape f.seat.me f.passes f.given f.taken f.spare.items };
+}
+
+/// The storage of a pass that has seen nothing.
+pub(crate) fn storage(alloc: Global, shape: Shape) -> Result<Vec<Sight>, Alloc>
+    requires width { (0 < shape.width) × (shape.width ≤ MAX_WIDTH) }
+    ensures { IfOk result (λ v. IsSpare shape v.items) }
+{
+    let mut seen = Vec::with_capacity(alloc, shape.generations as usize)?;
+    for _ in 0..shape.generations {
+        seen.push(Sight::new(shape.width))?;
+    }
+    Ok(seen)
+}
+
+/// A storage that is reserved, or a new one where none is.
+fn take_storage(
+    spare: &mut Vec<Vec<Sight>>,
+    alloc: Global,
+    shape: Shape,
+) -> Result<Vec<Sight>, Alloc>
+    requires width { (0 < shape.width) × (shape.width ≤ MAX_WIDTH) }
+    requires spares { All (λ v. IsSpare shape v.items) spare.old.items }
+    ensures fresh { IfOk result (λ v. IsSpare shape v.items) }
+    ensures spares { All (λ v. IsSpare shape v.items) spare.new.items }
+    ensures reserved { 0 < length spare.old.items → IsOk result }
+    ensures taken { OnOk result (length spare.new.items ≡ length spare.old.items - 1) }
+    ensures err { OnErr result (length spare.new.items ≡ length spare.old.items) }
+{
+    match spare.pop() {
+        Some(seen) => Ok(seen),
+        None => storage(alloc, shape),
+    }
+}
+
+impl Founder {
+    /// How many passes are out: given, and not taken back.
+    pub fn out(&self) -> u32
+        ensures { result + length self.now.records ≡ self.now.given }
+    {
+        self.given - self.taken
+    }
+
+    /// Reserves the storage of one more pass.
+    pub fn reserve(&mut self, alloc: Global, table: &GenTable) -> Result<(), Alloc>
+        requires table { self.old.table ≡ table.now }
+        ensures ok { OnOk result (self.new ≡ founder_reserved self.old) }
+        ensures err { OnErr result (self.new ≡ self.old) }
+    {
+        let seen = storage(alloc, table.shape())?;
+        self.spare.push(seen)?;
+        Ok(())
+    }
+
+    /// Gives a pass, with a storage that is reserved where there is one. All its storage is taken here.
+    ///
+    /// # Errors
+    ///
+    /// [`NoPass::AllGiven`] where all passes were given that the table was made for, whether or not some were taken
+    /// back. [`NoPass::Alloc`] only where no storage is reserved; no number is used up then.
+    pub fn pass(&mut self, alloc: Global, table: &GenTable) -> Result<Pass, NoPass>
+        requires table { self.old.table ≡ table.now }
+        ensures pass { IfOk result (λ p. (p.table ≡ table.now) × (p.known ≡ newcomer table.now.shape.generations self.old.given self.old.records)) }
+        ensures founder { OnOk result (self.new ≡ founder_gave self.old) }
+        ensures all_given { (result ≡ Err NoPass.AllGiven) ↔ (self.old.given ≡ self.old.passes) }
+        ensures alloc { result ≡ Err NoPass.Alloc → self.old.spare ≡ 0 }
+        ensures err { OnErr result (self.new ≡ self.old) }
+    {
+        if self.given == self.passes {
+            return Err(NoPass::AllGiven);
+        }
+        let Ok(seen) = take_storage(&mut self.spare, alloc, table.shape()) else {
+            return Err(NoPass::Alloc);
+        };
+        let seat = table.shared().split_seat::<Given>(&mut self.seat);
+        self.given += 1;
+        Ok(Pass {
+            seat,
+            shape: self.shape,
+            number: self.given,
+            seen,
+        })
+    }
+
+    /// Takes a pass back, and keeps the record of it.
+    pub fn take_back(&mut self, table: &GenTable, pass: Pass)
+        requires table { self.old.table ≡ table.now }
+        requires pass { pass.table ≡ table.now }
+        ensures { self.new ≡ founder_took self.old pass.known }
+    {
+        let Pass { seat, .. } = pass;
+        let shared = table.shared();
+        shared.join_seat::<Taken>(&mut self.seat, seat);
+        // The join tells its seat nothing, and the count of passes that are out rests on what this load tells.
+        shared.load::<Count>(&mut self.seat, 0);
+        self.taken += 1;
+    }
+}

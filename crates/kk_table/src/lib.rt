@@ -1,0 +1,22 @@
+//! A table of row spaces over GF(2) that threads share without a lock: what one thread would answer, on words that
+//! change in single atomic steps.
+#![tactic(auto)]
+
+mod answers;
+mod founder;
+mod gen_table;
+mod logs;
+mod pass;
+mod rule;
+mod steps;
+mod view;
+
+pub use answers::{Freeze, Inserted, NoPass};
+pub use founder::Founder;
+pub use gen_table::GenTable;
+pub use logs::{Held, Logs};
+pub use pass::Pass;
+pub use view::{Known, Shape, View};
+
+#[cfg(test)]
+mod tests;
