@@ -1,0 +1,15 @@
+use Rattle.std.proofs.Common.{◌≡◌, ◌∙◌, ap, []}
+use Rattle.std.specs.Prelude.{unwrap_or}
+use Rattle.std.proofs.lemmas.Result.{IfOk-weaker}
+use Rattle.clap.specs.Matches.{found_of}
+use Rattle.clap.specs.Walk.{first_of, rows_of}
+use Rattle.clap.proofs.WalkLemmas.{first_value-rows}
+use Rattle.kk_words.proofs.Matches.{text_or}
+use Rattle.kk_words.proofs.reading.text_at.Goals as goal
+
+pub returns : goal.returns
+returns c =
+    let rows = rows_of (found_of c.args.matches.now) in
+    let first = c.get_str.ensures ∙ first_value-rows (found_of c.args.matches.now) c.text.result.now ∙ ap (λ id. first_of id rows) c.text.ensures in
+    let text = ap (λ s. s.now) c.unwrap_or.ensures ∙ text_or c.get_str.result _ _ first in
+    IfOk-weaker c.from_str.result _ _ (λ t e. e ∙ text) c.from_str.ensures.ok

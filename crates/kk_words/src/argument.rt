@@ -1,0 +1,98 @@
+//! What a command may be given.
+ghost use Rattle.std.specs.Prelude.{◌≡◌, false};
+ghost use Rattle.clap.specs.Walk.{rule_of};
+ghost use Rattle.kk_words.specs.Arguments.{text_of_word, text_of_name, default_of, id_of, rule_of_argument};
+
+use clap::{Arg, ArgAction, value_parser};
+use std::alloc::Global;
+
+/// A word that stands at a place of its own behind the command's name.
+#[derive(Clone, Copy, Debug, PartialEq, Eq)]
+pub(crate) enum Word {
+    Session,
+    M,
+    Mod,
+    L,
+    K,
+    Ticket,
+}
+
+impl Word {
+    /// What the word is called.
+    pub(crate) fn text(self) -> &'static str
+        ensures { result.now ≡ text_of_word self }
+    {
+        match self {
+            Word::Session => "SESSION",
+            Word::M => "M",
+            Word::Mod => "MOD",
+            Word::L => "L",
+            Word::K => "K",
+            Word::Ticket => "TICKET",
+        }
+    }
+}
+
+/// A number that a command may be given, by the option `--name N`.
+#[derive(Clone, Copy, Debug, PartialEq, Eq)]
+pub enum Name {
+    /// How many datagrams are taken of a gate.
+    Most,
+}
+
+impl Name {
+    /// The long name of the option.
+    pub(crate) fn text(self) -> &'static str
+        ensures { result.now ≡ text_of_name self }
+    {
+        match self {
+            Name::Most => "most",
+        }
+    }
+
+    /// The number where none is given.
+    pub(crate) fn default(self) -> Option<u64>
+        ensures { result ≡ default_of self }
+    {
+        match self {
+            Name::Most => Some(10_000_000),
+        }
+    }
+}
+
+/// An argument of a command.
+#[derive(Clone, Copy, Debug, PartialEq, Eq)]
+pub(crate) enum Argument {
+    /// A required word, of any text.
+    Word(Word),
+    /// An option with a number, which may be left out.
+    Number(Name),
+}
+
+impl Argument {
+    /// The argument as clap knows it.
+    pub(crate) fn clap_arg<'a>(self, alloc: Global) -> Arg<'a>
+        ensures rule { rule_of result ≡ rule_of_argument self }
+        ensures local { result.global ≡ false }
+    {
+        let id: &'a str = self.id();
+        let argument = Arg::new(alloc, id);
+        match self {
+            Argument::Word(_) => argument.required(true),
+            Argument::Number(_) => argument
+                .long(id)
+                .action(ArgAction::Set)
+                .value_parser(value_parser!(u64)),
+        }
+    }
+
+    /// By what clap knows the argument.
+    fn id(self) -> &'static str
+        ensures { result.now ≡ id_of self }
+    {
+        match self {
+            Argument::Word(word) => word.text(),
+            Argument::Number(name) => name.text(),
+        }
+    }
+}

@@ -1,0 +1,62 @@
+//! The commands, and the form of each.
+ghost use Rattle.std.specs.Prelude.{◌≡◌};
+ghost use Rattle.kk_words.specs.Commands.{command_named, form_of, name_of};
+
+use crate::argument::{Argument, Name, Word};
+
+/// A command of the program.
+#[derive(Clone, Copy, Debug, PartialEq, Eq)]
+pub enum Command {
+    Plan,
+    Pack,
+    Unpack,
+}
+
+/// A session, the code's parameters, and nothing on the file, whose length the source tells.
+const PLAN: [Argument; 5] = [
+    Argument::Word(Word::Session),
+    Argument::Word(Word::M),
+    Argument::Word(Word::Mod),
+    Argument::Word(Word::L),
+    Argument::Word(Word::K),
+];
+
+const PACK: [Argument; 1] = [Argument::Word(Word::Ticket)];
+
+const UNPACK: [Argument; 2] = [Argument::Word(Word::Ticket), Argument::Number(Name::Most)];
+
+impl Command {
+    /// The command of this name.
+    pub(crate) fn named(name: &str) -> Option<Command>
+        ensures { result ≡ command_named name.now }
+    {
+        match name {
+            "plan" => Some(Command::Plan),
+            "pack" => Some(Command::Pack),
+            "unpack" => Some(Command::Unpack),
+            _ => None,
+        }
+    }
+
+    /// The first word of the command.
+    pub(crate) fn name(self) -> &'static str
+        ensures { result.now ≡ name_of self }
+    {
+        match self {
+            Command::Plan => "plan",
+            Command::Pack => "pack",
+            Command::Unpack => "unpack",
+        }
+    }
+
+    /// The arguments of the command. Its words stand in the order in which they are given.
+    pub(crate) fn form(self) -> &'static [Argument]
+        ensures { result.now ≡ form_of self }
+    {
+        match self {
+            Command::Plan => &PLAN,
+            Command::Pack => &PACK,
+            Command::Unpack => &UNPACK,
+        }
+    }
+}

@@ -1,0 +1,17 @@
+//! The words of a command line: which command they ask for, and with what texts and numbers.
+#![tactic(auto)]
+
+mod argument;
+mod asked;
+mod command;
+mod fault;
+mod reading;
+
+pub use argument::Name;
+pub use asked::Asked;
+pub use command::Command;
+pub use fault::WordsFault;
+pub use reading::read_words;
+
+#[cfg(test)]
+mod tests;

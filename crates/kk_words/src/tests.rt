@@ -1,0 +1,132 @@
+use super::*;
+use std::alloc::{AllocError, Global};
+use std::test::*;
+
+/// The words of a line, parted by single spaces.
+fn words_of(alloc: Global, line: &str) -> Result<Vec<String>, AllocError> {
+    let mut words = Vec::new(alloc);
+    for word in line.split(' ') {
+        words.push(String::from_str(alloc, word)?)?;
+    }
+    Ok(words)
+}
+
+/// What the words of a line ask for: the command, the number of `--most`, and the texts.
+fn told(alloc: Global, line: &str) -> Result<String, Fail> {
+    let words = words_of(alloc, line)?;
+    let asked = match read_words(alloc, &words) {
+        Ok(asked) => asked,
+        Err(fault) => return Ok(format!(in alloc; "{fault:?}")?),
+    };
+    let mut text = format!(in alloc;
+        "{:?} {:?} {:?}",
+        asked.command(),
+        asked.number(Name::Most),
+        asked.seed()
+    )?;
+    for i in 0..asked.texts() {
+        text.push_str(" ")?;
+        text.push_str(asked.text(i))?;
+    }
+    Ok(text)
+}
+
+#[test]
+fn lines(rt: HostRuntime) -> Result<(), Fail> {
+    for (line, asked) in [
+        (
+            "plan 00000001 3 0000000000000003 3 1",
+            "Plan None None 00000001 3 0000000000000003 3 1",
+        ),
+        ("pack T", "Pack None None T"),
+        ("unpack T", "Unpack Some(10000000) None T"),
+        // An option stands before, between or after the words, with its number in its own word or in the next.
+        ("unpack T --most 5", "Unpack Some(5) None T"),
+        ("unpack --most=5 T", "Unpack Some(5) None T"),
+        ("plan 1 2 3 4 5 6", "Words"),
+        ("plan 1 2 3 4", "Words"),
+        ("pack", "Words"),
+        ("pack T T", "Words"),
+        ("pack T --most 5", "Words"),
+        // Each option once, by its whole name.
+        ("unpack T --most 5 --most 5", "Words"),
+        ("unpack T --mos 5", "Words"),
+        ("unpack T --Most 5", "Words"),
+        ("unpack T -m 5", "Words"),
+        // What the reader of an unsigned 64-bit number takes.
+        ("unpack T --most +5", "Unpack Some(5) None T"),
+        ("unpack T --most 005", "Unpack Some(5) None T"),
+        ("unpack T --most +0", "Unpack Some(0) None T"),
+        (
+            "unpack T --most 18446744073709551615",
+            "Unpack Some(18446744073709551615) None T",
+        ),
+        ("unpack T --most 18446744073709551616", "Words"),
+        ("unpack T --most=", "Words"),
+        ("unpack T --most", "Words"),
+        ("unpack T --most ", "Words"),
+        ("unpack T --most + ", "Words"),
+        ("unpack T --most ++5", "Words"),
+        ("unpack T --most 5.0", "Words"),
+        ("unpack T --most 0x5", "Words"),
+        ("unpack T --most -5", "Words"),
+        ("unpack T --most=-5", "Words"),
+        ("unpack T --most 5 ", "Words"),
+        // An empty word and `-` are words like others, and so is any word behind `--`.
+        ("unpack ", "Unpack Some(10000000) None "),
+        ("unpack -", "Unpack Some(10000000) None -"),
+        ("unpack -- --most", "Unpack Some(10000000) None --most"),
+        ("unpack --most 5 -- -x", "Unpack Some(5) None -x"),
+        ("unpack -- T --most 5", "Words"),
+        ("plan 1 -- -2 3 -- 5", "Plan None None 1 -2 3 -- 5"),
+        ("unpack -x", "Words"),
+        ("unpack help", "Unpack Some(10000000) None help"),
+        ("unpack --help", "Words"),
+        ("unpack --version", "Words"),
+        ("unpack -h", "Words"),
+        // The first word names the command, whatever it is.
+        ("--most 5 unpack T", "Words"),
+        ("-- unpack T", "Words"),
+        ("Unpack T", "Words"),
+        ("frob T", "Words"),
+        ("help", "Words"),
+        ("--help", "Words"),
+        ("--version", "Words"),
+        ("", "Words"),
+    ] {
+        let told = told(rt.alloc(), line)?;
+        assert_eq!(rt; told.as_str(), asked, "{line}");
+    }
+    Ok(())
+}
+
+#[test]
+fn no_words(rt: HostRuntime) -> Result<(), Fail> {
+    let none = Vec::new(rt.alloc());
+    assert!(rt; matches!(read_words(rt.alloc(), &none), Err(WordsFault::Words)));
+    let fault = format!(in rt.alloc(); "{}; {}", WordsFault::Words, WordsFault::Alloc)?;
+    assert_eq!(rt;
+        fault.as_str(),
+        "the words are not of a command's form; out of memory"
+    );
+    Ok(())
+}
+
+/// How many datagrams `unpack` takes at most, where the words ask for it, and with it the text of the ticket.
+fn most_of_unpack(alloc: Global, words: &[String]) -> Result<Option<(String, u64)>, WordsFault> {
+    let asked = read_words(alloc, words)?;
+    if asked.command() != Command::Unpack {
+        return Ok(None);
+    }
+    let ticket = String::from_str(alloc, asked.text(0))?;
+    let most = asked.number(Name::Most).unwrap();
+    Ok(Some((ticket, most)))
+}
+
+#[test]
+fn unpack_has_a_ticket_and_a_most(rt: HostRuntime) -> Result<(), Fail> {
+    let words = words_of(rt.alloc(), "unpack T --most 5")?;
+    let asked = most_of_unpack(rt.alloc(), &words)?;
+    assert!(rt; matches!(asked, Some((_, 5))));
+    Ok(())
+}
