@@ -9,7 +9,7 @@ use std::process::ExitCode;
 /// The status for want of memory, met before there is a word to run.
 const NO_MEMORY: u8 = 8;
 
-/// The words of the command line behind the program's name. Where they aren't text there are none, which is a faulty
+/// The words of the command line after the program's name. Where they aren't text there are none, which is a faulty
 /// command line.
 fn words(rt: &HostRuntime, alloc: Global) -> Result<Vec<String>, AllocError> {
     match env::args(rt) {
@@ -18,6 +18,7 @@ fn words(rt: &HostRuntime, alloc: Global) -> Result<Vec<String>, AllocError> {
     }
 }
 
+/// Runs the command that the words name over the standard streams, and ends with its status.
 fn main(rt: HostRuntime) -> ExitCode {
     let alloc = rt.alloc();
     let Ok(words) = words(&rt, alloc) else {

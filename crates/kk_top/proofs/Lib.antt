@@ -1,9 +1,7 @@
 pub mod Stopping
 pub mod Pieces
-pub mod Searching
 pub mod Spanned
 pub mod Receiving
-pub mod Written
 pub mod TwoWords
 pub mod Working
 pub mod Texts

@@ -1,7 +1,7 @@
--- A capture piece by piece: what the pieces up to the stop hold, and what is left behind them.
-use Rattle.std.proofs.Common.{◌≡◌, ℕ, zero, suc, ◌+◌, ◌<◌, ◌≤◌, true, false, cond, List, [], ◌∷◌, ◌++◌, length, take, drop, Ok, Err, refl, ap, sym, ◌∙◌, arith, length-take, length-drop}
+-- A capture piece by piece: what the pieces up to the stop hold, and how many bytes they have.
+use Rattle.std.proofs.Common.{◌≡◌, ℕ, zero, suc, ◌+◌, ◌<◌, ◌≤◌, min, true, false, cond, List, [], ◌∷◌, ◌++◌, length, take, drop, Ok, Err, refl, ap, sym, ◌∙◌, arith, length-take, length-drop}
 use Rattle.std.specs.Prelude.{◌==◌, sum_by}
-use Rattle.std.proofs.lemmas.List.{take_all, drop_all, drop-drop}
+use Rattle.std.proofs.lemmas.List.{take_all, drop_all}
 use Rattle.std.proofs.lemmas.List.Sums.{sum_by-cons}
 use Rattle.std.proofs.lemmas.Bool.Decides.{nat_tests}
 use Rattle.kk_code.specs.Ticket.{TicketFields}
@@ -23,7 +23,7 @@ pieces_within-enough (suc n) (suc m) (x ∷ bytes) a b =
     let shorter = length-drop 20 (x ∷ bytes) in
     ap (λ (rest : List (List ℕ)). take 20 (x ∷ bytes) ∷ rest) (pieces_within-enough n m (drop 20 (x ∷ bytes)) (omega arith) (omega arith))
 
--- the first piece, and those of the rest
+-- the first piece, and those of the remainder
 pub pieces-first : (bytes : List ℕ) → 0 < length bytes → pieces bytes ≡ take 20 bytes ∷ pieces (drop 20 bytes)
 unfolding pieces_within
 pieces-first [] some = absurd (omega arith)
@@ -31,12 +31,12 @@ pieces-first (x ∷ bytes) some =
     let shorter = length-drop 20 (x ∷ bytes) in
     ap (λ (rest : List (List ℕ)). take 20 (x ∷ bytes) ∷ rest) (pieces_within-enough (length bytes) (length (drop 20 (x ∷ bytes))) (drop 20 (x ∷ bytes)) (omega arith) (omega arith))
 
--- the data frames that a gate takes of these bytes, and the bytes that it leaves, when it may take n more pieces
+-- the data frames that are taken of these bytes, and how many bytes are read, where n more pieces may be taken
 unfoldable pub taken_within : TicketFields → ℕ → List ℕ → List (ℕ × ℕ)
 taken_within t n bytes = vectors_read t (up_to t n (pieces bytes))
 
-unfoldable pub left_within : TicketFields → ℕ → List ℕ → List ℕ
-left_within t n bytes = drop (sum_by length (up_to t n (pieces bytes))) bytes
+unfoldable pub length_within : TicketFields → ℕ → List ℕ → ℕ
+length_within t n bytes = sum_by length (up_to t n (pieces bytes))
 
 frames_read-short : (t : TicketFields) (piece : List ℕ) → length piece < 20 → frames_read t piece ≡ []
 unfolding frames_read
@@ -54,7 +54,7 @@ up_to-none : (t : TicketFields) (n : ℕ) → up_to t n [] ≡ []
 up_to-none t zero = refl
 up_to-none t (suc n) = refl
 
--- a rest that is no whole piece is taken and gives nothing
+-- a remainder that is no whole piece is taken and gives nothing
 alone : (t : TicketFields) (n : ℕ) (bytes : List ℕ) → 0 < length bytes → length bytes < 20 → up_to t (suc n) (pieces bytes) ≡ bytes ∷ []
 unfolding pieces_within
 alone t n bytes some short =
@@ -81,23 +81,27 @@ taken_within-short t n (x ∷ bytes) short =
     ∙ vectors_read-first t (x ∷ bytes) [] [] (frames_read-short t (x ∷ bytes) short)
     ∙ vectors_read-none t
 
-pub left_within-short : (t : TicketFields) (n : ℕ) (bytes : List ℕ) → length bytes < 20 → left_within t (suc n) bytes ≡ []
-unfolding left_within pieces_within
-left_within-short t n [] short = refl
-left_within-short t n (x ∷ bytes) short =
-    rw (alone t n (x ∷ bytes) (omega arith) short) (drop_all (sum_by length ((x ∷ bytes) ∷ [])) (x ∷ bytes) (omega (arith, sum_by-cons length (x ∷ bytes) [])))
+pub length_within-short : (t : TicketFields) (n : ℕ) (bytes : List ℕ) → length bytes < 20 → length_within t (suc n) bytes ≡ length bytes
+unfolding length_within pieces_within
+length_within-short t n [] short = refl
+length_within-short t n (x ∷ bytes) short =
+    rw (alone t n (x ∷ bytes) (omega arith) short) (omega (arith, sum_by-cons length (x ∷ bytes) []))
+
+-- at least the first piece is read
+pub length_within-some : (t : TicketFields) (n : ℕ) (bytes : List ℕ) → 0 < length bytes → min 20 (length bytes) ≤ length_within t (suc n) bytes
+unfolding length_within
+length_within-some t n bytes some =
+    let first = take 20 bytes in
+    let others = cond (has_end (frames_read t first)) [] (up_to t n (pieces (drop 20 bytes))) in
+    let all : sum_by length (up_to t (suc n) (pieces bytes)) ≡ length first + sum_by length others =
+    ap (λ (l : List (List ℕ)). sum_by length (up_to t (suc n) l)) (pieces-first bytes some) ∙ sum_by-cons length first others in
+    omega (arith, all, length-take 20 bytes)
 
 -- a whole piece: up_to at its front
 up_to-first : (t : TicketFields) (n : ℕ) (bytes : List ℕ) → 20 ≤ length bytes → up_to t (suc n) (pieces bytes) ≡ take 20 bytes ∷ cond (has_end (frames_read t (take 20 bytes))) [] (up_to t n (pieces (drop 20 bytes)))
 up_to-first t n bytes whole = ap (up_to t (suc n)) (pieces-first bytes (omega arith))
 
--- the bytes left behind a piece and those behind it
-left-behind : (bytes : List ℕ) (rest : List (List ℕ)) → 20 ≤ length bytes → drop (sum_by length (take 20 bytes ∷ rest)) bytes ≡ drop (sum_by length rest) (drop 20 bytes)
-left-behind bytes rest whole =
-    let many : sum_by length (take 20 bytes ∷ rest) ≡ 20 + sum_by length rest = sum_by-cons length (take 20 bytes) rest ∙ omega (arith, length-take 20 bytes) in
-    ap (λ (n : ℕ). drop n bytes) many ∙ sym (drop-drop (sum_by length rest) 20 bytes)
-
--- what a gate takes and leaves behind a whole piece in which these frames are read
+-- what is taken with a whole piece in which these frames are read, and how long it is
 taken-behind : (t : TicketFields) (n : ℕ) (bytes : List ℕ) (frames : List FrameValue) → 20 ≤ length bytes → frames_read t (take 20 bytes) ≡ frames → taken_within t (suc n) bytes ≡ vectors frames ++ vectors_read t (cond (has_end frames) [] (up_to t n (pieces (drop 20 bytes))))
 unfolding taken_within
 taken-behind t n bytes frames whole read =
@@ -105,37 +109,39 @@ taken-behind t n bytes frames whole read =
     ∙ vectors_read-first t (take 20 bytes) (cond (has_end (frames_read t (take 20 bytes))) [] (up_to t n (pieces (drop 20 bytes)))) frames read
     ∙ ap (λ (read : List FrameValue). vectors frames ++ vectors_read t (cond (has_end read) [] (up_to t n (pieces (drop 20 bytes))))) read
 
-left-behind-piece : (t : TicketFields) (n : ℕ) (bytes : List ℕ) (frames : List FrameValue) → 20 ≤ length bytes → frames_read t (take 20 bytes) ≡ frames → left_within t (suc n) bytes ≡ drop (sum_by length (cond (has_end frames) [] (up_to t n (pieces (drop 20 bytes))))) (drop 20 bytes)
-unfolding left_within
-left-behind-piece t n bytes frames whole read =
-    ap (λ (front : List (List ℕ)). drop (sum_by length front) bytes) (up_to-first t n bytes whole)
-    ∙ left-behind bytes (cond (has_end (frames_read t (take 20 bytes))) [] (up_to t n (pieces (drop 20 bytes)))) whole
-    ∙ ap (λ (read : List FrameValue). drop (sum_by length (cond (has_end read) [] (up_to t n (pieces (drop 20 bytes))))) (drop 20 bytes)) read
+length-behind : (t : TicketFields) (n : ℕ) (bytes : List ℕ) (frames : List FrameValue) → 20 ≤ length bytes → frames_read t (take 20 bytes) ≡ frames → length_within t (suc n) bytes ≡ 20 + sum_by length (cond (has_end frames) [] (up_to t n (pieces (drop 20 bytes))))
+unfolding length_within
+length-behind t n bytes frames whole read =
+    let others = λ (read : List FrameValue). cond (has_end read) [] (up_to t n (pieces (drop 20 bytes))) in
+    ap (sum_by length) (up_to-first t n bytes whole)
+    ∙ sum_by-cons length (take 20 bytes) (others (frames_read t (take 20 bytes)))
+    ∙ ap (λ (m : ℕ). m + sum_by length (others (frames_read t (take 20 bytes)))) (omega (arith, length-take 20 bytes))
+    ∙ ap (λ (read : List FrameValue). 20 + sum_by length (others read)) read
 
 whole-piece : (bytes : List ℕ) → 20 ≤ length bytes → length (take 20 bytes) ≡ 20
 whole-piece bytes whole = omega (arith, length-take 20 bytes)
 
--- behind a data frame the gate goes on
+-- after a data frame it goes on
 pub taken_within-vector : (t : TicketFields) (n : ℕ) (bytes : List ℕ) (generation row : ℕ) → 20 ≤ length bytes → frame_read t (take 20 bytes) ≡ Ok (Vector generation row) → taken_within t (suc n) bytes ≡ (generation, row) ∷ taken_within t n (drop 20 bytes)
 unfolding taken_within
 taken_within-vector t n bytes generation row whole read =
     taken-behind t n bytes (Vector generation row ∷ []) whole (frames_read-ok t (take 20 bytes) (Vector generation row) (whole-piece bytes whole) read)
 
-pub left_within-vector : (t : TicketFields) (n : ℕ) (bytes : List ℕ) (generation row : ℕ) → 20 ≤ length bytes → frame_read t (take 20 bytes) ≡ Ok (Vector generation row) → left_within t (suc n) bytes ≡ left_within t n (drop 20 bytes)
-unfolding left_within
-left_within-vector t n bytes generation row whole read =
-    left-behind-piece t n bytes (Vector generation row ∷ []) whole (frames_read-ok t (take 20 bytes) (Vector generation row) (whole-piece bytes whole) read)
+pub length_within-vector : (t : TicketFields) (n : ℕ) (bytes : List ℕ) (generation row : ℕ) → 20 ≤ length bytes → frame_read t (take 20 bytes) ≡ Ok (Vector generation row) → length_within t (suc n) bytes ≡ 20 + length_within t n (drop 20 bytes)
+unfolding length_within
+length_within-vector t n bytes generation row whole read =
+    length-behind t n bytes (Vector generation row ∷ []) whole (frames_read-ok t (take 20 bytes) (Vector generation row) (whole-piece bytes whole) read)
 
--- behind a faulty piece too
+-- after a faulty piece too
 pub taken_within-fault : (t : TicketFields) (n : ℕ) (bytes : List ℕ) (fault : FrameFault) → 20 ≤ length bytes → frame_read t (take 20 bytes) ≡ Err fault → taken_within t (suc n) bytes ≡ taken_within t n (drop 20 bytes)
 unfolding taken_within
 taken_within-fault t n bytes fault whole read =
     taken-behind t n bytes [] whole (frames_read-err t (take 20 bytes) fault (whole-piece bytes whole) read)
 
-pub left_within-fault : (t : TicketFields) (n : ℕ) (bytes : List ℕ) (fault : FrameFault) → 20 ≤ length bytes → frame_read t (take 20 bytes) ≡ Err fault → left_within t (suc n) bytes ≡ left_within t n (drop 20 bytes)
-unfolding left_within
-left_within-fault t n bytes fault whole read =
-    left-behind-piece t n bytes [] whole (frames_read-err t (take 20 bytes) fault (whole-piece bytes whole) read)
+pub length_within-fault : (t : TicketFields) (n : ℕ) (bytes : List ℕ) (fault : FrameFault) → 20 ≤ length bytes → frame_read t (take 20 bytes) ≡ Err fault → length_within t (suc n) bytes ≡ 20 + length_within t n (drop 20 bytes)
+unfolding length_within
+length_within-fault t n bytes fault whole read =
+    length-behind t n bytes [] whole (frames_read-err t (take 20 bytes) fault (whole-piece bytes whole) read)
 
 -- at END it stops
 pub taken_within-end : (t : TicketFields) (n : ℕ) (bytes : List ℕ) → 20 ≤ length bytes → frame_read t (take 20 bytes) ≡ Ok End → taken_within t (suc n) bytes ≡ []
@@ -143,15 +149,15 @@ taken_within-end t n bytes whole read =
     taken-behind t n bytes (End ∷ []) whole (frames_read-ok t (take 20 bytes) End (whole-piece bytes whole) read)
     ∙ vectors_read-none t
 
-pub left_within-end : (t : TicketFields) (n : ℕ) (bytes : List ℕ) → 20 ≤ length bytes → frame_read t (take 20 bytes) ≡ Ok End → left_within t (suc n) bytes ≡ drop 20 bytes
-left_within-end t n bytes whole read =
-    left-behind-piece t n bytes (End ∷ []) whole (frames_read-ok t (take 20 bytes) End (whole-piece bytes whole) read)
+pub length_within-end : (t : TicketFields) (n : ℕ) (bytes : List ℕ) → 20 ≤ length bytes → frame_read t (take 20 bytes) ≡ Ok End → length_within t (suc n) bytes ≡ 20
+length_within-end t n bytes whole read =
+    length-behind t n bytes (End ∷ []) whole (frames_read-ok t (take 20 bytes) End (whole-piece bytes whole) read)
 
--- it takes nothing when it may take no more pieces
+-- nothing is taken when no more pieces may be
 pub taken_within-zero : (t : TicketFields) (bytes : List ℕ) → taken_within t 0 bytes ≡ []
 unfolding taken_within
 taken_within-zero t bytes = vectors_read-none t
 
-pub left_within-zero : (t : TicketFields) (bytes : List ℕ) → left_within t 0 bytes ≡ bytes
-unfolding left_within
-left_within-zero t bytes = refl
+pub length_within-zero : (t : TicketFields) (bytes : List ℕ) → length_within t 0 bytes ≡ 0
+unfolding length_within
+length_within-zero t bytes = refl

@@ -1,188 +1,272 @@
 -- A source piece by piece: what was taken of it so far, and what there is still to take.
-use Rattle.std.proofs.Common.{◌≡◌, ℕ, zero, suc, ◌<◌, ◌≤◌, List, [], ◌∷◌, ◌++◌, length, get_or, take, drop, Option, Some, None, Ok, Err, IfSome, refl, ap, sym, ◌∙◌, arith, append_assoc, subst}
-use Rattle.std.proofs.lemmas.List.{append-nil, take_all, drop_all}
+use Rattle.std.proofs.Common.{◌≡◌, ℕ, zero, suc, ◌+◌, ◌<◌, ◌≤◌, List, [], ◌∷◌, ◌++◌, length, get_or, take, drop, Option, Some, None, Ok, Err, IfSome, refl, ap, sym, ◌∙◌, arith, append_assoc, length-append, length-take, subst, inl, inr}
+use Rattle.std.proofs.lemmas.List.{append-nil, take_at, drop_at, take_all, drop_all}
+use Rattle.std.proofs.lemmas.Option.{same_Some}
+use Rattle.std.specs.Io.KnownBytes.{prepend_known, IsAtEnd}
 use Rattle.std.specs.Prelude.{sum_by}
 use Rattle.std.proofs.Math.ListN.{set}
 use Rattle.kk_rows.specs.Space.{Space}
-use Rattle.kk_outside.specs.Reads.{FillsFrom, left_behind}
+use Rattle.kk_rows.specs.Span.{in_span}
+use Rattle.kk_outside.specs.Change.{Change, change}
+use Rattle.kk_outside.specs.Source.{SourceTold, Read, AtEnd, Failed, Took, bytes_read, FillsFrom}
+use Rattle.kk_outside.proofs.Known.{Took-nothing, Took-append, bytes_read-took, filled, filled_short, ended_by_fill}
 use Rattle.kk_code.specs.Ticket.{TicketFields, generations}
 use Rattle.kk_frame.specs.declared.fault.FrameFault.{FrameFault}
 use Rattle.kk_frame.specs.Frame.{Vector, End, frame_read}
-use Rattle.kk_frame.specs.Gate.{pieces, taken, vectors_read}
-use Rattle.kk_rows.specs.Span.{in_span}
+use Rattle.kk_frame.specs.Gate.{pieces, vectors_read}
+use Rattle.kk_top.specs.declared.receive.TheConstants.{MAX_PIECES}
 use Rattle.kk_top.specs.Spaces.{AreSpanned, AreReceived, no_space}
+use Rattle.kk_top.specs.commands.Unpack.{vectors_of, read_length, EndsAtStop, IsBeforeStop, ReadsUpToStop, FailsBeforeStop, LeavesRemainder, LeavesMore}
 use Rattle.kk_top.proofs.Spanned.{AreSpanned-push}
-use Rattle.kk_top.specs.Unpack.{most, read_length}
 use Rattle.kk_top.proofs.Stopping.{stop-up_to}
-use Rattle.kk_top.proofs.Pieces.{taken_within, left_within, taken_within-zero, left_within-zero, taken_within-short, left_within-short, taken_within-vector, left_within-vector, taken_within-fault, left_within-fault, taken_within-end, left_within-end}
+use Rattle.kk_top.proofs.Pieces.{taken_within, length_within, taken_within-zero, length_within-zero, taken_within-short, length_within-short, length_within-some, taken_within-vector, length_within-vector, taken_within-fault, length_within-fault, taken_within-end, length_within-end}
 
--- Of these bytes the data frames so far were taken, and what is left has the others, in n more pieces.
-pub record Follows (t : TicketFields) (n : ℕ) (bytes : List ℕ) (now : Option (List ℕ)) (vectors : List (ℕ × ℕ)) : Type 0 where
-  pub rest : List ℕ
-  pub left : now ≡ Some rest
-  pub taken : vectors ++ taken_within t n rest ≡ taken_within t most bytes
-  pub behind : left_within t n rest ≡ left_within t most bytes
+-- Of these bytes the data frames so far were taken, and n more pieces may come: whatever they are, these go on from there.
+pub record Follows (t : TicketFields) (n : ℕ) (bytes : List ℕ) (vectors : List (ℕ × ℕ)) : Type 0 where
+  pub taken : (more : List ℕ) → vectors ++ taken_within t n more ≡ taken_within t MAX_PIECES (bytes ++ more)
+  pub long : (more : List ℕ) → length bytes + length_within t n more ≡ length_within t MAX_PIECES (bytes ++ more)
 
--- the spaces so far, where the source began with `start` and has `now` left
-pub record Received (t : TicketFields) (n : ℕ) (start now : Option (List ℕ)) (spaces : List Space) : Type 0 where
-  pub vectors : List (ℕ × ℕ)
-  pub spanned : AreSpanned t spaces vectors
-  pub follows : IfSome start (λ bytes. Follows t n bytes now vectors)
+Follows-start : (t : TicketFields) → Follows t MAX_PIECES [] []
+Follows-start t = record { taken = λ more. refl; long = λ more. omega arith }
 
-IfSome-map : {X : Type 0} {P Q : X → Type 0} (o : Option X) → ((x : X) → P x → Q x) → IfSome o P → IfSome o Q
-IfSome-map None f h = h
-IfSome-map (Some x) f h = f x h
+-- a whole piece before other bytes
+front_of : (piece more : List ℕ) → length piece ≡ 20 → take 20 (piece ++ more) ≡ piece
+front_of piece more whole = take_at piece more 20 whole
 
-IfSome-at : {X : Type 0} (P : X → Type 0) (o : Option X) (x : X) → o ≡ Some x → IfSome o P → P x
-IfSome-at P None x e h = absurd (cc)
-IfSome-at P (Some y) x e h = let same : y ≡ x = cc in subst P same h
+after_of : (piece more : List ℕ) → length piece ≡ 20 → drop 20 (piece ++ more) ≡ more
+after_of piece more whole = drop_at piece more 20 whole
 
--- before the first piece
-pub Follows-start : (t : TicketFields) (bytes : List ℕ) → Follows t most bytes (Some bytes) []
-Follows-start t bytes = record { rest = bytes; left = refl; taken = refl; behind = refl }
-
--- a whole piece that a fill gave, as the front of what was left
-pub record IsPiece (now after : Option (List ℕ)) (piece : List ℕ) : Type 0 where
-  pub whole : IfSome now (λ rest. 20 ≤ length rest)
-  pub front : IfSome now (λ rest. piece ≡ take 20 rest)
-  pub behind : after ≡ left_behind 20 now
-
--- the rest, of which a whole piece was the front
-pub record Split (t : TicketFields) (n : ℕ) (bytes : List ℕ) (now after : Option (List ℕ)) (vectors : List (ℕ × ℕ)) (piece : List ℕ) : Type 0 where
-  pub rest : List ℕ
-  pub whole : 20 ≤ length rest
-  pub front : piece ≡ take 20 rest
-  pub left : after ≡ Some (drop 20 rest)
-  pub taken : vectors ++ taken_within t n rest ≡ taken_within t most bytes
-  pub behind : left_within t n rest ≡ left_within t most bytes
-
-Split-from : (t : TicketFields) (n : ℕ) (bytes : List ℕ) (now after : Option (List ℕ)) (vectors : List (ℕ × ℕ)) (piece : List ℕ) → Follows t n bytes now vectors → IsPiece now after piece → Split t n bytes now after vectors piece
-Split-from t n bytes now after vectors piece follows is_piece = record {
-  rest = follows.rest;
-  whole = IfSome-at (λ rest. 20 ≤ length rest) now follows.rest follows.left is_piece.whole;
-  front = IfSome-at (λ rest. piece ≡ take 20 rest) now follows.rest follows.left is_piece.front;
-  left = is_piece.behind ∙ ap (left_behind 20) follows.left;
-  taken = follows.taken;
-  behind = follows.behind;
-}
+enough : (piece more : List ℕ) → length piece ≡ 20 → 20 ≤ length (piece ++ more)
+enough piece more whole = omega (arith, length-append piece more)
 
 -- a data frame
-pub Follows-vector : (t : TicketFields) (n : ℕ) (bytes : List ℕ) (now after : Option (List ℕ)) (vectors : List (ℕ × ℕ)) (piece : List ℕ) (generation row : ℕ) → Follows t (suc n) bytes now vectors → IsPiece now after piece → frame_read t piece ≡ Ok (Vector generation row) → Follows t n bytes after (vectors ++ (generation, row) ∷ [])
-Follows-vector t n bytes now after vectors piece generation row follows is_piece read =
-    let split = Split-from t (suc n) bytes now after vectors piece follows is_piece in
-    let here : frame_read t (take 20 split.rest) ≡ Ok (Vector generation row) = sym (ap (frame_read t) split.front) ∙ read in
+Follows-vector : (t : TicketFields) (n : ℕ) (bytes : List ℕ) (vectors : List (ℕ × ℕ)) (piece : List ℕ) (generation row : ℕ) → Follows t (suc n) bytes vectors → length piece ≡ 20 → frame_read t piece ≡ Ok (Vector generation row) → Follows t n (bytes ++ piece) (vectors ++ (generation, row) ∷ [])
+Follows-vector t n bytes vectors piece generation row follows whole read =
+    let here = λ (more : List ℕ). ap (frame_read t) (front_of piece more whole) ∙ read in
     record {
-      rest = drop 20 split.rest;
-      left = split.left;
-      taken =
-          append_assoc vectors ((generation, row) ∷ []) (taken_within t n (drop 20 split.rest))
-          ∙ sym (ap (λ (more : List (ℕ × ℕ)). vectors ++ more) (taken_within-vector t n split.rest generation row split.whole here))
-          ∙ split.taken;
-      behind = sym (left_within-vector t n split.rest generation row split.whole here) ∙ split.behind;
+      taken = λ more.
+          append_assoc vectors ((generation, row) ∷ []) (taken_within t n more)
+          ∙ ap (λ (l : List (ℕ × ℕ)). vectors ++ l) (sym (taken_within-vector t n (piece ++ more) generation row (enough piece more whole) (here more) ∙ ap (λ (l : List ℕ). (generation, row) ∷ taken_within t n l) (after_of piece more whole)))
+          ∙ follows.taken (piece ++ more)
+          ∙ sym (ap (taken_within t MAX_PIECES) (append_assoc bytes piece more));
+      long = λ more.
+          let step = length_within-vector t n (piece ++ more) generation row (enough piece more whole) (here more) ∙ ap (λ (l : List ℕ). 20 + length_within t n l) (after_of piece more whole) in
+          omega (arith, step, length-append bytes piece, follows.long (piece ++ more))
+          ∙ sym (ap (length_within t MAX_PIECES) (append_assoc bytes piece more));
     }
 
 -- a piece that is no frame
-pub Follows-fault : (t : TicketFields) (n : ℕ) (bytes : List ℕ) (now after : Option (List ℕ)) (vectors : List (ℕ × ℕ)) (piece : List ℕ) (fault : FrameFault) → Follows t (suc n) bytes now vectors → IsPiece now after piece → frame_read t piece ≡ Err fault → Follows t n bytes after vectors
-Follows-fault t n bytes now after vectors piece fault follows is_piece read =
-    let split = Split-from t (suc n) bytes now after vectors piece follows is_piece in
-    let here : frame_read t (take 20 split.rest) ≡ Err fault = sym (ap (frame_read t) split.front) ∙ read in
+Follows-fault : (t : TicketFields) (n : ℕ) (bytes : List ℕ) (vectors : List (ℕ × ℕ)) (piece : List ℕ) (fault : FrameFault) → Follows t (suc n) bytes vectors → length piece ≡ 20 → frame_read t piece ≡ Err fault → Follows t n (bytes ++ piece) vectors
+Follows-fault t n bytes vectors piece fault follows whole read =
+    let here = λ (more : List ℕ). ap (frame_read t) (front_of piece more whole) ∙ read in
     record {
-      rest = drop 20 split.rest;
-      left = split.left;
-      taken =
-          sym (ap (λ (more : List (ℕ × ℕ)). vectors ++ more) (taken_within-fault t n split.rest fault split.whole here))
-          ∙ split.taken;
-      behind = sym (left_within-fault t n split.rest fault split.whole here) ∙ split.behind;
+      taken = λ more.
+          ap (λ (l : List (ℕ × ℕ)). vectors ++ l) (sym (taken_within-fault t n (piece ++ more) fault (enough piece more whole) (here more) ∙ ap (taken_within t n) (after_of piece more whole)))
+          ∙ follows.taken (piece ++ more)
+          ∙ sym (ap (taken_within t MAX_PIECES) (append_assoc bytes piece more));
+      long = λ more.
+          let step = length_within-fault t n (piece ++ more) fault (enough piece more whole) (here more) ∙ ap (λ (l : List ℕ). 20 + length_within t n l) (after_of piece more whole) in
+          omega (arith, step, length-append bytes piece, follows.long (piece ++ more))
+          ∙ sym (ap (length_within t MAX_PIECES) (append_assoc bytes piece more));
     }
 
--- all that is taken was taken, and this is left
-pub record IsDone (t : TicketFields) (bytes : List ℕ) (after : Option (List ℕ)) (vectors : List (ℕ × ℕ)) : Type 0 where
-  pub taken : vectors ≡ taken t most (pieces bytes)
-  pub left : after ≡ Some (drop (read_length t bytes) bytes)
-
-taken-is : (t : TicketFields) (bytes : List ℕ) → taken_within t most bytes ≡ taken t most (pieces bytes)
+taken-is : (t : TicketFields) (bytes : List ℕ) → taken_within t MAX_PIECES bytes ≡ vectors_of t bytes
 unfolding taken_within
 taken-is t bytes = sym (ap (vectors_read t) (stop-up_to t 9999999 (pieces bytes)))
 
-left-is : (t : TicketFields) (bytes : List ℕ) → left_within t most bytes ≡ drop (read_length t bytes) bytes
-unfolding left_within read_length
-left-is t bytes = sym (ap (λ (front : List (List ℕ)). drop (sum_by length front) bytes) (stop-up_to t 9999999 (pieces bytes)))
+length-is : (t : TicketFields) (bytes : List ℕ) → length_within t MAX_PIECES bytes ≡ read_length t bytes
+unfolding length_within read_length
+length-is t bytes = sym (ap (sum_by length) (stop-up_to t 9999999 (pieces bytes)))
 
-done : (t : TicketFields) (bytes rest : List ℕ) (after : Option (List ℕ)) (vectors : List (ℕ × ℕ)) (more : List (ℕ × ℕ)) → more ≡ [] → vectors ++ more ≡ taken_within t most bytes → after ≡ Some rest → rest ≡ left_within t most bytes → IsDone t bytes after vectors
-done t bytes rest after vectors more none all left behind = record {
-  taken = sym (append-nil vectors) ∙ ap (λ (m : List (ℕ × ℕ)). vectors ++ m) (sym none) ∙ all ∙ taken-is t bytes;
-  left = left ∙ ap Some (behind ∙ left-is t bytes);
-}
+-- ---- what these bytes come to, once no more are read
+
+-- The stop is at their end, and these are the data frames.
+record IsDone (t : TicketFields) (bytes : List ℕ) (vectors : List (ℕ × ℕ)) : Type 0 where
+  pub taken : (more : List ℕ) → vectors_of t (bytes ++ more) ≡ vectors
+  pub long : EndsAtStop t bytes
+
+-- The stop isn't reached, and these are the data frames.
+record IsOpen (t : TicketFields) (bytes : List ℕ) (vectors : List (ℕ × ℕ)) : Type 0 where
+  pub taken : vectors_of t bytes ≡ vectors
+  pub long : read_length t bytes ≡ length bytes
+  pub before : IsBeforeStop t bytes
 
 -- END
-pub IsDone-end : (t : TicketFields) (n : ℕ) (bytes : List ℕ) (now after : Option (List ℕ)) (vectors : List (ℕ × ℕ)) (piece : List ℕ) → Follows t (suc n) bytes now vectors → IsPiece now after piece → frame_read t piece ≡ Ok End → IsDone t bytes after vectors
-IsDone-end t n bytes now after vectors piece follows is_piece read =
-    let split = Split-from t (suc n) bytes now after vectors piece follows is_piece in
-    let here : frame_read t (take 20 split.rest) ≡ Ok End = sym (ap (frame_read t) split.front) ∙ read in
-    done t bytes (drop 20 split.rest) after vectors (taken_within t (suc n) split.rest) (taken_within-end t n split.rest split.whole here) split.taken split.left (sym (left_within-end t n split.rest split.whole here) ∙ split.behind)
+IsDone-end : (t : TicketFields) (n : ℕ) (bytes : List ℕ) (vectors : List (ℕ × ℕ)) (piece : List ℕ) → Follows t (suc n) bytes vectors → length piece ≡ 20 → frame_read t piece ≡ Ok End → IsDone t (bytes ++ piece) vectors
+IsDone-end t n bytes vectors piece follows whole read =
+    let here = λ (more : List ℕ). ap (frame_read t) (front_of piece more whole) ∙ read in
+    record {
+      taken = λ more.
+          sym (taken-is t ((bytes ++ piece) ++ more))
+          ∙ ap (taken_within t MAX_PIECES) (append_assoc bytes piece more)
+          ∙ sym (follows.taken (piece ++ more))
+          ∙ ap (λ (l : List (ℕ × ℕ)). vectors ++ l) (taken_within-end t n (piece ++ more) (enough piece more whole) (here more))
+          ∙ append-nil vectors;
+      long = λ more.
+          sym (length-is t ((bytes ++ piece) ++ more))
+          ∙ ap (length_within t MAX_PIECES) (append_assoc bytes piece more)
+          ∙ omega (arith, follows.long (piece ++ more), length_within-end t n (piece ++ more) (enough piece more whole) (here more), length-append bytes piece);
+    }
 
--- a rest that is no whole piece, or none
-pub IsDone-short : (t : TicketFields) (n : ℕ) (bytes : List ℕ) (now after : Option (List ℕ)) (vectors : List (ℕ × ℕ)) → Follows t (suc n) bytes now vectors → IfSome now (λ rest. length rest < 20) → after ≡ left_behind 20 now → IsDone t bytes after vectors
-IsDone-short t n bytes now after vectors follows short behind =
-    let few = IfSome-at (λ rest. length rest < 20) now follows.rest follows.left short in
-    done t bytes (drop 20 follows.rest) after vectors (taken_within t (suc n) follows.rest) (taken_within-short t n follows.rest few) follows.taken (behind ∙ ap (left_behind 20) follows.left) (drop_all 20 follows.rest (omega arith) ∙ sym (left_within-short t n follows.rest few) ∙ follows.behind)
-
--- as many pieces as a gate takes
-pub IsDone-most : (t : TicketFields) (bytes : List ℕ) (now : Option (List ℕ)) (vectors : List (ℕ × ℕ)) → Follows t 0 bytes now vectors → IsDone t bytes now vectors
-IsDone-most t bytes now vectors follows =
-    done t bytes follows.rest now vectors (taken_within t 0 follows.rest) (taken_within-zero t follows.rest) follows.taken follows.left (sym (left_within-zero t follows.rest) ∙ follows.behind)
-
--- a fill that gave as many bytes as a piece has
-pub IsPiece-filled : {E : Type 0} (before after : Option (List ℕ)) (n : ℕ) (buf : List ℕ) → FillsFrom {E = E} before after (Ok n) buf → length buf ≡ 20 → 20 ≤ n → IsPiece before after buf
-IsPiece-filled before after n buf fills size whole = record {
-  whole = IfSome-map before (λ xs h. omega arith) fills.count;
-  front = IfSome-map before (λ xs h. sym (take_all n buf (omega arith)) ∙ h ∙ ap (λ (k : ℕ). take k xs) size) fills.given;
-  behind = fills.behind ∙ ap (λ (k : ℕ). left_behind k before) size;
+-- as many pieces as are taken
+IsDone-most : (t : TicketFields) (bytes : List ℕ) (vectors : List (ℕ × ℕ)) → Follows t 0 bytes vectors → IsDone t bytes vectors
+IsDone-most t bytes vectors follows = record {
+  taken = λ more. sym (taken-is t (bytes ++ more)) ∙ sym (follows.taken more) ∙ ap (λ (l : List (ℕ × ℕ)). vectors ++ l) (taken_within-zero t more) ∙ append-nil vectors;
+  long = λ more. sym (length-is t (bytes ++ more)) ∙ omega (arith, follows.long more, length_within-zero t more);
 }
 
--- and one that gave fewer
-pub short-filled : {E : Type 0} (before after : Option (List ℕ)) (n : ℕ) (buf : List ℕ) → FillsFrom {E = E} before after (Ok n) buf → length buf ≡ 20 → n < 20 → IfSome before (λ rest. length rest < 20)
-short-filled before after n buf fills size few = IfSome-map before (λ xs h. omega arith) fills.count
+-- less than a piece
+before_stop : (t : TicketFields) (n : ℕ) (bytes : List ℕ) (vectors : List (ℕ × ℕ)) (part : List ℕ) → Follows t (suc n) bytes vectors → length part < 20 → IsBeforeStop t (bytes ++ part)
+before_stop t n bytes vectors part follows short = λ more some.
+    let next = part ++ more in
+    let many = length-append part more in
+    let room : 0 < length next = omega (arith, many, some) in
+    let whole : length_within t MAX_PIECES (bytes ++ next) ≡ read_length t ((bytes ++ part) ++ more) = ap (length_within t MAX_PIECES) (sym (append_assoc bytes part more)) ∙ length-is t ((bytes ++ part) ++ more) in
+    omega (arith, whole, follows.long next, length_within-some t n next room, many, some, short, length-append bytes part)
 
-pub behind-filled : {E : Type 0} (before after : Option (List ℕ)) (n : ℕ) (buf : List ℕ) → FillsFrom {E = E} before after (Ok n) buf → length buf ≡ 20 → after ≡ left_behind 20 before
-behind-filled before after n buf fills size = fills.behind ∙ ap (λ (k : ℕ). left_behind k before) size
+IsOpen-short : (t : TicketFields) (n : ℕ) (bytes : List ℕ) (vectors : List (ℕ × ℕ)) (part : List ℕ) → Follows t (suc n) bytes vectors → length part < 20 → IsOpen t (bytes ++ part) vectors
+IsOpen-short t n bytes vectors part follows short = record {
+  taken = sym (taken-is t (bytes ++ part)) ∙ sym (follows.taken part) ∙ ap (λ (l : List (ℕ × ℕ)). vectors ++ l) (taken_within-short t n part short) ∙ append-nil vectors;
+  long = sym (length-is t (bytes ++ part)) ∙ omega (arith, follows.long part, length_within-short t n part short, length-append bytes part);
+  before = before_stop t n bytes vectors part follows short;
+}
 
--- the spaces before the first piece
-pub Received-start : (t : TicketFields) (start : Option (List ℕ)) (spaces : List Space) → AreSpanned t spaces [] → Received t most start start spaces
-Received-start t None spaces spanned = record { vectors = []; spanned = spanned; follows = tt }
-Received-start t (Some bytes) spaces spanned = record { vectors = []; spanned = spanned; follows = Follows-start t bytes }
+-- ---- what is left of a source that tells it
+
+remainder_at : (t : TicketFields) (all bytes left : List ℕ) → all ≡ bytes ++ left → read_length t all ≡ length bytes → (take (read_length t all) all ≡ bytes) × (drop (read_length t all) all ≡ left)
+remainder_at t all bytes left is long = (
+  ap (λ (n : ℕ). take n all) long ∙ ap (λ (l : List ℕ). take (length bytes) l) is ∙ take_at bytes left (length bytes) refl,
+  ap (λ (n : ℕ). drop n all) long ∙ ap (λ (l : List ℕ). drop (length bytes) l) is ∙ drop_at bytes left (length bytes) refl,
+)
+
+-- the source after bytes up to the stop
+remainder : (t : TicketFields) (bytes : List ℕ) (source : Change SourceTold) (old new : Option (List ℕ)) → source.old.left ≡ old → source.new.left ≡ new → bytes_read source ≡ bytes → old ≡ prepend_known bytes new → ((more : List ℕ) → new ≡ Some more → (read_length t (bytes ++ more) ≡ length bytes) × (vectors_of t bytes ≡ vectors_of t (bytes ++ more))) → IfSome old (λ all. LeavesRemainder t all source)
+remainder t bytes source None new was now are left at = tt
+remainder t bytes source (Some all) None was now are left at = absurd (cc left)
+remainder t bytes source (Some all) (Some more) was now are left at =
+    let is : all ≡ bytes ++ more = same_Some _ _ left in
+    let here = at more refl in
+    let split = remainder_at t all bytes more is (ap (read_length t) is ∙ here.0) in
+    record {
+      taken = are ∙ sym split.0;
+      left = now ∙ ap Some (sym split.1);
+      same = ap (vectors_of t) are ∙ here.1 ∙ sym (ap (vectors_of t) is);
+    }
+
+-- and after a failure
+more_left : (t : TicketFields) (bytes : List ℕ) (source : Change SourceTold) (old new : Option (List ℕ)) → source.new.left ≡ new → bytes_read source ≡ bytes → old ≡ prepend_known bytes new → IsBeforeStop t bytes → IfSome old (λ all. LeavesMore t all source)
+more_left t bytes source None new now are left before = tt
+more_left t bytes source (Some all) None now are left before = absurd (cc left)
+more_left t bytes source (Some all) (Some []) now are left before = inr now
+more_left t bytes source (Some all) (Some (x ∷ more)) now are left before =
+    let is : all ≡ bytes ++ x ∷ more = same_Some _ _ left in
+    let longer : length bytes < read_length t (bytes ++ x ∷ more) = before (x ∷ more) (omega arith) in
+    inl (omega (arith, longer, ap length are, ap (read_length t) is))
+
+pub LeavesMore-failed : (t : TicketFields) (source : Change SourceTold) → FailsBeforeStop t source → IfSome source.old.left (λ all. LeavesMore t all source)
+LeavesMore-failed t source failed = more_left t (bytes_read source) source source.old.left source.new.left refl refl failed.took.left failed.before
+
+-- ---- the spaces
+
+-- the spaces so far, where n more pieces may come
+pub record Received (t : TicketFields) (n : ℕ) (source : Change SourceTold) (spaces : List Space) : Type 0 where
+  pub bytes : List ℕ
+  pub took : Took bytes [] source
+  pub vectors : List (ℕ × ℕ)
+  pub follows : Follows t n bytes vectors
+  pub spanned : AreSpanned t spaces vectors
+
+-- before the first piece
+pub Received-start : (t : TicketFields) (now : SourceTold) (spaces : List Space) → AreSpanned t spaces [] → Received t MAX_PIECES (change now now) spaces
+Received-start t now spaces spanned =
+    record { bytes = []; took = Took-nothing now; vectors = []; follows = Follows-start t; spanned = spanned }
+
+-- a fill that gave as many bytes as a piece has
+pub Took-piece : {E : Type 0} (now end : SourceTold) (n : ℕ) (buf : List ℕ) → FillsFrom {E = E} (change now end) (Ok n) buf → length buf ≡ 20 → 20 ≤ n → Took buf [] (change now end)
+Took-piece now end n buf fills size whole = filled (change now end) n buf fills (omega (arith, fills.bounded, size, whole))
 
 -- after a data frame
-pub Received-vector : (t : TicketFields) (n : ℕ) (start now after : Option (List ℕ)) (spaces : List Space) (piece : List ℕ) (g row : ℕ) (new : Space) → Received t (suc n) start now spaces → IsPiece now after piece → frame_read t piece ≡ Ok (Vector g row) → g < generations t → new.width ≡ (get_or spaces g no_space).width → ((x : ℕ) → in_span new.rows x ≡ in_span ((get_or spaces g no_space).rows ++ row ∷ []) x) → Received t n start after (set spaces g new)
-Received-vector t n start now after spaces piece g row new received is_piece read within wide grown = record {
+pub Received-vector : (t : TicketFields) (n : ℕ) (start now end : SourceTold) (spaces : List Space) (piece : List ℕ) (g row : ℕ) (new : Space) → Received t (suc n) (change start now) spaces → Took piece [] (change now end) → length piece ≡ 20 → frame_read t piece ≡ Ok (Vector g row) → g < generations t → new.width ≡ (get_or spaces g no_space).width → ((x : ℕ) → in_span new.rows x ≡ in_span ((get_or spaces g no_space).rows ++ row ∷ []) x) → Received t n (change start end) (set spaces g new)
+Received-vector t n start now end spaces piece g row new received took whole read within wide grown = record {
+  bytes = received.bytes ++ piece;
+  took = Took-append received.bytes piece [] start now end received.took took;
   vectors = received.vectors ++ (g, row) ∷ [];
+  follows = Follows-vector t n received.bytes received.vectors piece g row received.follows whole read;
   spanned = AreSpanned-push t spaces received.vectors g row new received.spanned within wide grown;
-  follows = IfSome-map start (λ bytes follows. Follows-vector t n bytes now after received.vectors piece g row follows is_piece read) received.follows;
 }
 
 -- after a piece that is no frame
-pub Received-fault : (t : TicketFields) (n : ℕ) (start now after : Option (List ℕ)) (spaces : List Space) (piece : List ℕ) (fault : FrameFault) → Received t (suc n) start now spaces → IsPiece now after piece → frame_read t piece ≡ Err fault → Received t n start after spaces
-Received-fault t n start now after spaces piece fault received is_piece read = record {
+pub Received-fault : (t : TicketFields) (n : ℕ) (start now end : SourceTold) (spaces : List Space) (piece : List ℕ) (fault : FrameFault) → Received t (suc n) (change start now) spaces → Took piece [] (change now end) → length piece ≡ 20 → frame_read t piece ≡ Err fault → Received t n (change start end) spaces
+Received-fault t n start now end spaces piece fault received took whole read = record {
+  bytes = received.bytes ++ piece;
+  took = Took-append received.bytes piece [] start now end received.took took;
   vectors = received.vectors;
+  follows = Follows-fault t n received.bytes received.vectors piece fault received.follows whole read;
   spanned = received.spanned;
-  follows = IfSome-map start (λ bytes follows. Follows-fault t n bytes now after received.vectors piece fault follows is_piece read) received.follows;
 }
 
 -- at the stop
-received_at_stop : (t : TicketFields) (start after : Option (List ℕ)) (spaces : List Space) (vectors : List (ℕ × ℕ)) → AreSpanned t spaces vectors → IfSome start (λ bytes. IsDone t bytes after vectors) → AreReceived t start after spaces
-received_at_stop t start after spaces vectors spanned done = record {
-  vectors = vectors;
-  spanned = spanned;
-  taken = IfSome-map start (λ bytes d. d.taken) done;
-  left = IfSome-map start (λ bytes d. d.left) done;
-}
+at_stop : (t : TicketFields) (bytes : List ℕ) (source : Change SourceTold) (spaces : List Space) (vectors : List (ℕ × ℕ)) → Took bytes [] source → IsDone t bytes vectors → AreSpanned t spaces vectors → AreReceived t source spaces
+at_stop t bytes source spaces vectors took done spanned =
+    let are : bytes_read source ≡ bytes = bytes_read-took bytes [] source took refl in
+    let alone : vectors_of t bytes ≡ vectors = ap (vectors_of t) (sym (append-nil bytes)) ∙ done.taken [] in
+    let T : List ℕ → Type 0 = λ l. Took l [] source in
+    let E : List ℕ → Type 0 = λ l. EndsAtStop t l in
+    let V : List (ℕ × ℕ) → Type 0 = λ l. AreSpanned t spaces l in
+    record {
+      read = record { last = []; took = subst T (sym are) took; ended = subst E (sym are) done.long };
+      left = remainder t bytes source source.old.left source.new.left refl refl are took.left (λ more now. (done.long more, alone ∙ sym (done.taken more)));
+      spanned = subst V (sym (ap (vectors_of t) are ∙ alone)) spanned;
+    }
 
-pub AreReceived-end : (t : TicketFields) (n : ℕ) (start now after : Option (List ℕ)) (spaces : List Space) (piece : List ℕ) → Received t (suc n) start now spaces → IsPiece now after piece → frame_read t piece ≡ Ok End → AreReceived t start after spaces
-AreReceived-end t n start now after spaces piece received is_piece read = received_at_stop t start after spaces received.vectors received.spanned (IfSome-map start (λ bytes follows. IsDone-end t n bytes now after received.vectors piece follows is_piece read) received.follows)
+-- at the source's end
+at_end : (t : TicketFields) (bytes : List ℕ) (source : Change SourceTold) (spaces : List Space) (vectors : List (ℕ × ℕ)) → Took bytes (AtEnd ∷ []) source → IsAtEnd source.new.left → IsOpen t bytes vectors → AreSpanned t spaces vectors → AreReceived t source spaces
+at_end t bytes source spaces vectors took end open_ spanned =
+    let are : bytes_read source ≡ bytes = bytes_read-took bytes (AtEnd ∷ []) source took refl in
+    let T : List ℕ → Type 0 = λ l. Took l (AtEnd ∷ []) source in
+    let B : List ℕ → Type 0 = λ l. IsBeforeStop t l in
+    let V : List (ℕ × ℕ) → Type 0 = λ l. AreSpanned t spaces l in
+    record {
+      read = record { last = AtEnd ∷ []; took = subst T (sym are) took; ended = subst B (sym are) open_.before };
+      left = remainder t bytes source source.old.left source.new.left refl refl are took.left
+          (λ more now.
+          let none : more ≡ [] = subst IsAtEnd now end in
+          let all : bytes ++ more ≡ bytes = ap (λ (l : List ℕ). bytes ++ l) none ∙ append-nil bytes in
+          (ap (read_length t) all ∙ open_.long, ap (vectors_of t) (sym all)));
+      spanned = subst V (sym (ap (vectors_of t) are ∙ open_.taken)) spanned;
+    }
 
-pub AreReceived-short : (t : TicketFields) (n : ℕ) (start now after : Option (List ℕ)) (spaces : List Space) → Received t (suc n) start now spaces → IfSome now (λ rest. length rest < 20) → after ≡ left_behind 20 now → AreReceived t start after spaces
-AreReceived-short t n start now after spaces received short behind = received_at_stop t start after spaces received.vectors received.spanned (IfSome-map start (λ bytes follows. IsDone-short t n bytes now after received.vectors follows short behind) received.follows)
+pub AreReceived-end : (t : TicketFields) (n : ℕ) (start now end : SourceTold) (spaces : List Space) (piece : List ℕ) → Received t (suc n) (change start now) spaces → Took piece [] (change now end) → length piece ≡ 20 → frame_read t piece ≡ Ok End → AreReceived t (change start end) spaces
+AreReceived-end t n start now end spaces piece received took whole read =
+    at_stop t (received.bytes ++ piece) (change start end) spaces received.vectors (Took-append received.bytes piece [] start now end received.took took)
+    (IsDone-end t n received.bytes received.vectors piece received.follows whole read) received.spanned
 
-pub AreReceived-most : (t : TicketFields) (n : ℕ) (start now : Option (List ℕ)) (spaces : List Space) → n ≡ 0 → Received t n start now spaces → AreReceived t start now spaces
-AreReceived-most t zero start now spaces none received = received_at_stop t start now spaces received.vectors received.spanned (IfSome-map start (λ bytes follows. IsDone-most t bytes now received.vectors follows) received.follows)
-AreReceived-most t (suc n) start now spaces none received = absurd (omega arith)
+pub AreReceived-most : (t : TicketFields) (n : ℕ) (source : Change SourceTold) (spaces : List Space) → n ≡ 0 → Received t n source spaces → AreReceived t source spaces
+AreReceived-most t zero source spaces none received =
+    at_stop t received.bytes source spaces received.vectors received.took (IsDone-most t received.bytes received.vectors received.follows) received.spanned
+AreReceived-most t (suc n) source spaces none received = absurd (omega arith)
+
+-- a fill that left room
+pub AreReceived-short : {E : Type 0} (t : TicketFields) (n : ℕ) (start now end : SourceTold) (spaces : List Space) (count : ℕ) (buf : List ℕ) → Received t (suc n) (change start now) spaces → FillsFrom {E = E} (change now end) (Ok count) buf → length buf ≡ 20 → count < 20 → AreReceived t (change start end) spaces
+AreReceived-short t n start now end spaces count buf received fills size few =
+    let part = take count buf in
+    let short : count < length buf = omega (arith, size, few) in
+    let here : length part < 20 = omega (arith, length-take count buf, few) in
+    at_end t (received.bytes ++ part) (change start end) spaces received.vectors
+    (Took-append received.bytes part (AtEnd ∷ []) start now end received.took (filled_short (change now end) count buf fills short))
+    (ended_by_fill (change now end) count buf fills short)
+    (IsOpen-short t n received.bytes received.vectors part received.follows here) received.spanned
+
+-- a fill that failed
+pub FailsBeforeStop-fill : {E : Type 0} (t : TicketFields) (n : ℕ) (start now end : SourceTold) (spaces : List Space) (e : E) (buf : List ℕ) → Received t (suc n) (change start now) spaces → FillsFrom {E = E} (change now end) (Err e) buf → length buf ≡ 20 → FailsBeforeStop t (change start end)
+FailsBeforeStop-fill t n start now end spaces e buf received fills size =
+    let part = fills.lost.0 in
+    let bytes = received.bytes ++ part in
+    let took = Took-append received.bytes part (Failed ∷ []) start now end received.took fills.lost.2 in
+    let are : bytes_read (change start end) ≡ bytes = bytes_read-took bytes (Failed ∷ []) (change start end) took refl in
+    let T : List ℕ → Type 0 = λ l. Took l (Failed ∷ []) (change start end) in
+    let B : List ℕ → Type 0 = λ l. IsBeforeStop t l in
+    record {
+      took = subst T (sym are) took;
+      before = subst B (sym are) (before_stop t n received.bytes received.vectors part received.follows (omega (arith, fills.lost.1, size)));
+    }

@@ -1,6 +1,6 @@
 -- The report by what a receiver holds, and a run as a whole.
 use Rattle.std.proofs.Common.{◌≡◌, ◌≢◌, ◌⊎◌, inl, inr, ℕ, ◌<◌, ◌≤◌, Bool, List, [], ◌∷◌, ◌++◌, length, get_or, Option, None, is_some, refl, ap, sym, subst, ◌∙◌, arith}
-use Rattle.std.specs.Prelude.{map, codes, if◌then◌else◌, ◌||◌, ◌==◌, ◌↔◌}
+use Rattle.std.specs.Prelude.{map, codes, if◌then◌else◌, ◌||◌, ◌==◌, ◌↔◌, IfSome, IsSomeAnd}
 use Rattle.std.specs.List.{zip, range_with_len}
 use Rattle.std.proofs.lemmas.Bool.{cases_eq}
 use Rattle.std.proofs.lemmas.List.{same_lists, length-map, get_or-map}
@@ -14,10 +14,15 @@ use Rattle.kk_code.specs.Codeword.{width}
 use Rattle.kk_code.specs.Ticket.{TicketFields, generations}
 use Rattle.kk_code.specs.TicketText.{IsTicketText, spelled}
 use Rattle.kk_top.specs.Answers.{rows_of, frozen, answers, generations_text}
-use Rattle.kk_top.specs.Report.{count_line, generation_lines, outcome, outcomes}
-use Rattle.kk_top.specs.Search.{IsSearched}
+use Rattle.kk_top.specs.Command.{IsRefusal, MayTouchFile, status_line}
+use Rattle.kk_top.specs.Report.{count_line, generation_lines, outcome, outcomes, outcome_report}
 use Rattle.kk_top.specs.Spaces.{Spans, AreSpanned, IsUnpacked, no_space}
-use Rattle.kk_top.specs.Unpack.{IsForm, IsRefusal, IsWritten, Change, HasFailed, CanCount, Takes, Runs, report_text, told_text, status_line}
+use Rattle.kk_top.specs.commands.Unpack.{IsUnpackCommand, NamesTicket, NamesNoTicket, UnpacksUnder, vectors_of, unpacked, ReadsUpToStop, FailsBeforeStop, LeavesRemainder, LeavesMore, report_of, IsReported, IsUnpackStatus}
+use Rattle.kk_outside.specs.Causes.{CanCount}
+use Rattle.kk_outside.specs.Change.{Change}
+use Rattle.kk_outside.specs.Source.{SourceTold, SourceFailed, bytes_read}
+use Rattle.kk_outside.specs.Sink.{SinkTold, SinkFailed, WasGiven}
+use Rattle.kk_top.proofs.Receiving.{LeavesMore-failed}
 
 -- what the report says of a generation
 abbrev told_of : TicketFields → List (ℕ × ℕ) → ℕ → ℕ × Bool
@@ -49,95 +54,89 @@ lines_are t spaces found vectors spanned is_found =
     ap (λ (n : ℕ). count_line n ++ generation_lines (outcomes spaces found)) spanned.count
     ∙ ap (λ (l : List (ℕ × Bool)). count_line (generations t) ++ generation_lines l) (outcomes-spanned t spaces found vectors spanned is_found)
 
-text_at : (t : TicketFields) (status : ℕ) (source file : Change) (spaces : List Space) (found : List (Option (List ℕ))) (u : IsUnpacked t status source file spaces found) → (status ≡ 4) ⊎ (status ≢ 4) → told_text status spaces found ≡ report_text t u.vectors status
+text_at : (t : TicketFields) (status : ℕ) (source : Change SourceTold) (file : Change SinkTold) (spaces : List Space) (found : List (Option (List ℕ))) → IsUnpacked t status source file spaces found → (status ≡ 4) ⊎ (status ≢ 4) → outcome_report status spaces found ≡ report_of t (bytes_read source) status
 text_at t status source file spaces found u (inl four) =
-    let P : ℕ → Type 0 = λ s. told_text s spaces found ≡ report_text t u.vectors s in
+    let P : ℕ → Type 0 = λ s. outcome_report s spaces found ≡ report_of t (bytes_read source) s in
     subst P (sym four) refl
 text_at t status source file spaces found u (inr other) =
-    ap (λ (l : List ℕ). (if (status == 0) || (status == 3) then l else []) ++ status_line status) (lines_are t spaces found u.vectors (u.spanned other) (u.answered other))
+    ap (λ (l : List ℕ). (if (status == 0) || (status == 3) then l else []) ++ status_line status) (lines_are t spaces found (vectors_of t (bytes_read source)) (u.received other).spanned (u.answered other))
 
--- the report by the spaces and answers is that of the data frames
-pub told_text-unpacked : (t : TicketFields) (status : ℕ) (source file : Change) (spaces : List Space) (found : List (Option (List ℕ))) (u : IsUnpacked t status source file spaces found) → told_text status spaces found ≡ report_text t u.vectors status
-told_text-unpacked t status source file spaces found u = text_at t status source file spaces found u (cases_eq status 4)
+-- the report by the spaces and answers is that of the capture
+outcome_report-unpacked : (t : TicketFields) (status : ℕ) (source : Change SourceTold) (file : Change SinkTold) (spaces : List Space) (found : List (Option (List ℕ))) → IsUnpacked t status source file spaces found → outcome_report status spaces found ≡ report_of t (bytes_read source) status
+outcome_report-unpacked t status source file spaces found u = text_at t status source file spaces found u (cases_eq status 4)
 
 not_four : (status : ℕ) → (status ≡ 0) ⊎ (status ≡ 3) → status ≡ 4 → ⊥
 not_four status (inl zero_) e = omega (arith, zero_, e)
 not_four status (inr three) e = omega (arith, three, e)
 
 -- an answer for each space, where the report tells of them
-pub one_each : (t : TicketFields) (status : ℕ) (source file : Change) (spaces : List Space) (found : List (Option (List ℕ))) → IsUnpacked t status source file spaces found → (status ≡ 0) ⊎ (status ≡ 3) → length found ≡ length spaces
+pub one_each : (t : TicketFields) (status : ℕ) (source : Change SourceTold) (file : Change SinkTold) (spaces : List Space) (found : List (Option (List ℕ))) → IsUnpacked t status source file spaces found → (status ≡ 0) ⊎ (status ≡ 3) → length found ≡ length spaces
 one_each t status source file spaces found u is =
     let other = not_four status is in
-    let a = λ (g : ℕ). answer t.code (frozen u.vectors g) in
-    ap length (u.answered other) ∙ length-map-range_with_len a 0 (generations t) ∙ sym (u.spanned other).count
+    let a = λ (g : ℕ). answer t.code (frozen (vectors_of t (bytes_read source)) g) in
+    ap length (u.answered other) ∙ length-map-range_with_len a 0 (generations t) ∙ sym (u.received other).spanned.count
 
--- ---- the run as a whole
+-- ---- the status of a run, by the one that its report tells
 
--- a status that no refusal has
-abbrev IsKept : ℕ → Type 0
-IsKept status = (status ≡ 0) ⊎ ((3 ≤ status) × (status ≤ 5))
+-- the status, where the report told this one
+abbrev pub IsStatusOf : ℕ → ℕ → Type 0
+IsStatusOf told status = (status ≡ told) ⊎ ((told ≡ 0) × (status ≡ 5))
 
-told_kept : (told : ℕ) → (told ≡ 3) ⊎ ((told ≡ 4) ⊎ IsWritten told) → IsKept told
-told_kept told (inl e) = inr (omega (arith, e), omega (arith, e))
-told_kept told (inr (inl e)) = inr (omega (arith, e), omega (arith, e))
-told_kept told (inr (inr (inl e))) = inl e
-told_kept told (inr (inr (inr e))) = inr (omega (arith, e), omega (arith, e))
+at_three : (told status : ℕ) → IsStatusOf told status → (status ≡ 3 → told ≡ 3) × (told ≡ 3 → status ≡ 3)
+at_three told status (inl same) = (λ e. sym same ∙ e, λ e. same ∙ e)
+at_three told status (inr five) = (λ e. absurd (omega (arith, e, five.1)), λ e. absurd (omega (arith, e, five.0)))
 
-kept : (told status : ℕ) → IsKept told → (status ≡ told) ⊎ ((told ≡ 0) × (status ≡ 5)) → IsKept status
-kept told status is (inl e) = subst IsKept (sym e) is
-kept told status is (inr five) = inr (omega (arith, five.1), omega (arith, five.1))
+at_four : (told status : ℕ) → IsStatusOf told status → (status ≡ 4 → told ≡ 4) × (told ≡ 4 → status ≡ 4)
+at_four told status (inl same) = (λ e. sym same ∙ e, λ e. same ∙ e)
+at_four told status (inr five) = (λ e. absurd (omega (arith, e, five.1)), λ e. absurd (omega (arith, e, five.0)))
 
-not_at : (status n : ℕ) → IsKept status → (n ≢ 0) → ((3 ≤ n) × (n ≤ 5) → ⊥) → status ≡ n → ⊥
-not_at status n (inl e) some outside same = some (sym same ∙ e)
-not_at status n (inr within) some outside same = outside (omega (arith, within.0, same), omega (arith, within.1, same))
+touched_back : (told status : ℕ) → IsStatusOf told status → MayTouchFile status → MayTouchFile told
+touched_back told status (inl same) (inl zero_) = inl (sym same ∙ zero_)
+touched_back told status (inl same) (inr five) = inr (sym same ∙ five)
+touched_back told status (inr five) is = inl five.0
 
-not_1 : (status : ℕ) → IsKept status → status ≡ 1 → ⊥
-not_1 status is = not_at status 1 is (λ e. omega (arith, e)) (λ h. omega (arith, h.0))
-
-not_2 : (status : ℕ) → IsKept status → status ≡ 2 → ⊥
-not_2 status is = not_at status 2 is (λ e. omega (arith, e)) (λ h. omega (arith, h.0))
-
-not_8 : (status : ℕ) → IsKept status → status ≡ 8 → ⊥
-not_8 status is = not_at status 8 is (λ e. omega (arith, e)) (λ h. omega (arith, h.1))
-
-not_10 : (status : ℕ) → IsKept status → status ≡ 10 → ⊥
-not_10 status is = not_at status 10 is (λ e. omega (arith, e)) (λ h. omega (arith, h.1))
-
-not_refusal : (status : ℕ) → IsKept status → IsRefusal status → ⊥
-not_refusal status is (inl e) = not_1 status is e
-not_refusal status is (inr (inl e)) = not_2 status is e
-not_refusal status is (inr (inr (inl e))) = not_8 status is e
-not_refusal status is (inr (inr (inr e))) = not_10 status is e
+-- ---- the words
 
 second_word : (a b c : List ℕ) → a ∷ b ∷ [] ≡ a ∷ c ∷ [] → b ≡ c
 second_word a b c e = cc
 
 -- the words have one second word, and it spells one ticket
-same_text : (words : List (List ℕ)) (text other : List ℕ) → IsForm words text → IsForm words other → other ≡ text
+same_text : (words : List (List ℕ)) (text other : List ℕ) → IsUnpackCommand words text → IsUnpackCommand words other → other ≡ text
 same_text words text other form another = second_word (codes "unpack") other text (sym another ∙ form)
 
-pub Runs-unpacked : (words : List (List ℕ)) (text : List ℕ) (t : TicketFields) (told status : ℕ) (source file report : Change) (spaces : List Space) (found : List (Option (List ℕ))) → IsForm words text → IsTicketText text t → IsSearched t.code → IsUnpacked t told source file spaces found → (CanCount report → Takes (told_text told spaces found) report) → (status ≡ told) ⊎ ((told ≡ 0) × (status ≡ 5)) → (CanCount report → told ≡ 0 → ((status ≡ 5) ↔ HasFailed report)) → Runs words status source file report
-Runs-unpacked words text t told status source file report spaces found form good searched u takes same five =
-    let is = kept told status (told_kept told u.work.no_other) same in
-    let T : List ℕ → Type 0 = λ l. Takes l report in
-    let I : List ℕ → Type 0 = λ l. IsTicketText l t in
+pub one_ticket : (words : List (List ℕ)) (t s : TicketFields) → NamesTicket words t → NamesTicket words s → t ≡ s
+one_ticket words t s named other = sym named.2.spells ∙ sym (ap spelled (same_text words named.0 other.0 named.1 other.1)) ∙ other.2.spells
+
+-- ---- the run as a whole
+
+-- what holds of a run under this ticket
+pub record IsRun (t : TicketFields) (status : ℕ) (source : Change SourceTold) (file report : Change SinkTold) : Type 0 where
+  pub not_decoded : (status ≡ 4 → ⊥) → ((status ≡ 3) ↔ (unpacked t (bytes_read source) ≡ None))
+  pub read_to_stop : (status ≡ 4 → ⊥) → ReadsUpToStop t source
+  pub failed_before_stop : status ≡ 4 → FailsBeforeStop t source
+  pub remainder : (status ≡ 4 → ⊥) → IfSome source.old.left (λ bytes. LeavesRemainder t bytes source)
+  pub more_left : status ≡ 4 → IfSome source.old.left (λ bytes. LeavesMore t bytes source)
+  pub written : MayTouchFile status → IsSomeAnd (unpacked t (bytes_read source)) (λ text. WasGiven text file)
+  pub reported : IsReported t (bytes_read source) status file report
+
+pub IsRun-unpacked : (t : TicketFields) (told status : ℕ) (source : Change SourceTold) (file report : Change SinkTold) (spaces : List Space) (found : List (Option (List ℕ))) → IsUnpacked t told source file spaces found → WasGiven (outcome_report told spaces found) report → IsStatusOf told status → IsRun t status source file report
+IsRun-unpacked t told status source file report spaces found u given same =
+    let three = at_three told status same in
+    let four = at_four told status same in
+    let W : List ℕ → Type 0 = λ l. WasGiven l report in
     record {
-      words_refused = (λ e. absurd (not_1 status is e), λ no. absurd (no text form));
-      ticket_refused = (λ e. absurd (not_2 status is e), λ other. absurd (other.2 t (subst I (sym (same_text words text other.0 form other.1)) good)));
-      not_built = (λ e. absurd (not_10 status is e), λ other. absurd (other.4 (subst (λ (v : TicketFields). IsSearched v.code) (sym good.spells ∙ sym (ap spelled (same_text words text other.0 form other.2)) ∙ other.3.spells) searched)));
-      refused = λ refusal. absurd (not_refusal status is refusal);
-      unpacks = λ other. (
-        text,
-        t,
-        form,
-        good,
-        record {
-          vectors = u.vectors;
-          told = told;
-          work = u.work;
-          reported = λ can. subst T (told_text-unpacked t told source file spaces found u) (takes can);
-          same_or_five = same;
-          five = five;
-        },
-      );
+      not_decoded = λ other.
+          let decides = u.not_decoded (λ e. other (four.1 e)) in
+          (λ e. decides.0 (three.0 e), λ none. three.1 (decides.1 none));
+      read_to_stop = λ other. (u.received (λ e. other (four.1 e))).read;
+      failed_before_stop = λ e. u.failed (four.0 e);
+      remainder = λ other. (u.received (λ e. other (four.1 e))).left;
+      more_left = λ e. LeavesMore-failed t source (u.failed (four.0 e));
+      written = λ is. u.written (touched_back told status same is);
+      reported = record {
+        told = told;
+        same_or_five = same;
+        five = λ can is. u.output_fault can (touched_back told status same is);
+        given = subst W (outcome_report-unpacked t told source file spaces found u) given;
+      };
     }

@@ -1,27 +1,25 @@
 -- The row spaces of a receiver, one data frame after another, and what they decode to.
 use Rattle.std.proofs.Common.{◌≡◌, ◌≢◌, ◌⊎◌, inl, inr, subst, ℕ, ◌+◌, ◌-◌, ◌<◌, Bool, true, false, cond, eqb, List, [], ◌∷◌, ◌++◌, length, get_or, Option, Some, refl, ap, sym, ◌∙◌, arith, get_or-set_same, get_or-set_other}
-use Rattle.std.specs.Prelude.{map, nat_le}
-use Rattle.std.specs.List.{find}
+use Rattle.std.specs.Prelude.{map}
 use Rattle.std.proofs.Math.ListN.{set, length-set}
 use Rattle.std.specs.Bool.{OnTrue, OnFalse}
-use Rattle.std.proofs.lemmas.List.{append-nil, same_lists, length-map, get_or-map}
+use Rattle.std.proofs.lemmas.List.{same_lists, length-map, get_or-map}
 use Rattle.std.proofs.lemmas.List.FromFn.{length-map-range_with_len, get_or-map-range_with_len}
 use Rattle.std.proofs.lemmas.Bool.{cases_eq}
 use Rattle.std.proofs.lemmas.Bool.Decides.{nat_tests}
-use Rattle.kk_rows.specs.Span.{in_span, dimension}
-use Rattle.kk_rows.specs.Distance.{distance}
+use Rattle.kk_rows.specs.Span.{in_span}
 use Rattle.kk_rows.specs.Space.{Space}
-use Rattle.kk_rows.proofs.Spans.{in_span-append_same}
-use Rattle.kk_rows.proofs.Dimensions.{dimension-same_span, in_span_innovative}
-use Rattle.kk_code.specs.Codeword.{Parameters, codeword, width}
-use Rattle.kk_code.specs.Decoding.{within_radius, answer, messages}
+use Rattle.kk_rows.proofs.Spans.{in_span-inserted}
+use Rattle.kk_rows.proofs.Dimensions.{in_span_innovative}
+use Rattle.kk_code.specs.Codeword.{Parameters, width}
+use Rattle.kk_code.specs.Decoding.{answer}
 use Rattle.kk_code.specs.Ticket.{TicketFields, generations}
 use Rattle.std.specs.Option.{option_map}
 use Rattle.kk_assemble.specs.FileBits.{joined}
 use Rattle.kk_assemble.specs.Messages.{all_messages}
 use Rattle.kk_top.specs.Answers.{rows_of, frozen, answers, file_text}
 use Rattle.kk_top.specs.Spaces.{Spans, AreSpanned, no_space}
-use Rattle.kk_top.proofs.Searching.{Spans-inserted}
+use Rattle.kk_decode.proofs.Answering.{answer-same_span}
 
 -- one data frame more
 pub rows_of-push_same : (g : ℕ) (vectors : List (ℕ × ℕ)) (row : ℕ) → rows_of g (vectors ++ (g, row) ∷ []) ≡ rows_of g vectors ++ row ∷ []
@@ -42,41 +40,17 @@ rows_of-push_other g (vector ∷ vectors) generation row other =
       | false ↦ rows_of-push_other g vectors generation row other
     ]
 
--- The distance of a codeword depends on the span alone.
-within_radius-same : (p : Parameters) (a b : List ℕ) → ((x : ℕ) → in_span a x ≡ in_span b x) → (u : List ℕ) → within_radius p a u ≡ within_radius p b u
-unfolding within_radius
-within_radius-same p a b same u =
-    let v = codeword p u in
-    let alone = dimension-same_span a b same in
-    let joined = dimension-same_span (v ++ a) (v ++ b) (in_span-append_same v v a b (λ x. refl) same) in
-    ap (λ (d : ℕ). nat_le (dimension (v ++ a) - (dimension v + d - dimension (v ++ a))) (p.l - p.k)) alone
-    ∙ ap (λ (d : ℕ). nat_le (d - (dimension v + dimension b - d)) (p.l - p.k)) joined
-
--- the test of the distance by three dimensions
-pub within_radius-from : (p : Parameters) (rows u v : List ℕ) (sent received sum meet distance l k : ℕ) → v ≡ codeword p u → sent ≡ dimension (v ++ []) → received ≡ dimension rows → sum ≡ dimension (v ++ rows) → meet ≡ sent + received - sum → distance ≡ sum - meet → l ≡ p.l → k ≡ p.k → nat_le distance (l - k) ≡ within_radius p rows u
-unfolding within_radius
-within_radius-from p rows u v sent received sum meet distance l k is_v is_sent is_received is_sum is_meet is_distance is_l is_k =
-    let sent_is : sent ≡ dimension (codeword p u) = is_sent ∙ ap dimension (append-nil v ∙ is_v) in
-    let sum_is : sum ≡ dimension (codeword p u ++ rows) = is_sum ∙ ap (λ (l : List ℕ). dimension (l ++ rows)) is_v in
-    let meet_is : meet ≡ dimension (codeword p u) + dimension rows - dimension (codeword p u ++ rows) = omega arith in
-    let distance_is : distance ≡ dimension (codeword p u ++ rows) - (dimension (codeword p u) + dimension rows - dimension (codeword p u ++ rows)) = omega arith in
-    ap (λ (d : ℕ). nat_le d (l - k)) distance_is
-    ∙ ap (λ (r : ℕ). nat_le (dimension (codeword p u ++ rows) - (dimension (codeword p u) + dimension rows - dimension (codeword p u ++ rows))) r) (omega arith)
-
-find-same : {X : Type 0} (p q : X → Bool) → ((x : X) → p x ≡ q x) → (xs : List X) → find p xs ≡ find q xs
-find-same p q same [] = refl
-find-same {X} p q same (x ∷ xs) =
-    ap (λ (b : Bool). cond b (Some x) (find p xs)) (same x) ∙ ap (λ (o : Option X). cond (q x) (Some x) o) (find-same p q same xs)
-
--- And so does the answer.
-pub answer-same : (p : Parameters) (a b : List ℕ) → ((x : ℕ) → in_span a x ≡ in_span b x) → answer p a ≡ answer p b
-unfolding answer
-answer-same p a b same = find-same (within_radius p a) (within_radius p b) (within_radius-same p a b same) (messages p)
+-- a row into the space of these rows
+Spans-inserted : (w : ℕ) (old new : Space) (rows : List ℕ) (row : ℕ) → Spans w old rows → new.width ≡ old.width → ((x : ℕ) → in_span new.rows x ≡ in_span (old.rows ++ row ∷ []) x) → Spans w new (rows ++ row ∷ [])
+Spans-inserted w old new rows row spans wide grown = record {
+  wide = wide ∙ spans.wide;
+  same = in_span-inserted rows old.rows new.rows row spans.same grown;
+}
 
 -- what a generation's space decodes to
 pub answer-spanned : (p : Parameters) (w : ℕ) (space : Space) (vectors : List (ℕ × ℕ)) (g : ℕ) → Spans w space (rows_of g vectors) → answer p space.rows ≡ answer p (frozen vectors g)
 answer-spanned p w space vectors g spans =
-    answer-same p space.rows (frozen vectors g) (λ x. spans.same x ∙ sym (in_span_innovative (rows_of g vectors) x))
+    answer-same_span p space.rows (frozen vectors g) (λ x. spans.same x ∙ sym (in_span_innovative (rows_of g vectors) x))
 
 -- what one generation's space is after a row of one of them
 spans_after : (t : TicketFields) (spaces : List Space) (vectors : List (ℕ × ℕ)) (g row : ℕ) (new : Space) → AreSpanned t spaces vectors → g < generations t → Spans (width t.code) new (rows_of g vectors ++ row ∷ []) → (h : ℕ) → h < generations t → (h ≡ g) ⊎ (h ≢ g) → Spans (width t.code) (get_or (set spaces g new) h no_space) (rows_of h (vectors ++ (g, row) ∷ []))

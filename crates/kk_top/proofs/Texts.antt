@@ -7,13 +7,14 @@ use Rattle.std.specs.List.{enumerate_from}
 use Rattle.std.proofs.Math.Seq.{take-append-add, take-suc}
 use Rattle.std.specs.Io.KnownBytes.{append_known}
 use Rattle.kk_outside.proofs.Known.{append_known-append_known}
-use Rattle.kk_outside.specs.Writes.{WritesAllTo}
+use Rattle.kk_outside.specs.Change.{change}
+use Rattle.kk_outside.specs.Sink.{SinkTold, WritesAllTo}
 use Rattle.kk_top.specs.Report.{generation_line, generation_lines_from, generation_lines}
 
 -- one text is out, and then another was written or failed: this writes both
-pub WritesAllTo-append : {T U E : Type 0} {x : T} (before middle after : Option (List ℕ)) (result : Result U E) (first second : List ℕ) → WritesAllTo {E = E} before middle (Ok x) first → WritesAllTo middle after result second → WritesAllTo before after result (first ++ second)
+pub WritesAllTo-append : {T U E : Type 0} {x : T} (before middle after : SinkTold) (result : Result U E) (first second : List ℕ) → WritesAllTo {E = E} (change before middle) (Ok x) first → WritesAllTo (change middle after) result second → WritesAllTo (change before after) result (first ++ second)
 WritesAllTo-append before middle after (Ok y) first second one two = record {
-  all = two.all ∙ ap (λ (o : Option (List ℕ)). append_known o second) one.all ∙ append_known-append_known before first second;
+  all = two.all ∙ ap (λ (o : Option (List ℕ)). append_known o second) one.all ∙ append_known-append_known before.written first second;
   part = tt;
 }
 WritesAllTo-append before middle after (Err e) first second one two =
@@ -25,20 +26,20 @@ WritesAllTo-append before middle after (Err e) first second one two =
         omega (arith, two.part.1, length-append first second),
         two.part.2
             ∙ ap (λ (o : Option (List ℕ)). append_known o (take n second)) one.all
-            ∙ append_known-append_known before first (take n second)
-            ∙ ap (λ (l : List ℕ). append_known before l) (sym (take-append-add first second n)),
+            ∙ append_known-append_known before.written first (take n second)
+            ∙ ap (λ (l : List ℕ). append_known before.written l) (sym (take-append-add first second n)),
       );
     }
 
 -- the first of two texts was not written whole: this is a failed write of both
-pub WritesAllTo-stopped : {T U E : Type 0} {e : E} (before after : Option (List ℕ)) (first second : List ℕ) → WritesAllTo {T = T} before after (Err e) first → WritesAllTo {T = U} before after (Err e) (first ++ second)
+pub WritesAllTo-stopped : {T U E : Type 0} {e : E} (before after : SinkTold) (first second : List ℕ) → WritesAllTo {T = T} (change before after) (Err e) first → WritesAllTo {T = U} (change before after) (Err e) (first ++ second)
 WritesAllTo-stopped before after first second failed = record {
   all = tt;
   part = (
     failed.part.0,
     omega (arith, failed.part.1, length-append first second),
     failed.part.2
-        ∙ ap (λ (l : List ℕ). append_known before l) (sym (take-append-le failed.part.0 first second (omega (arith, failed.part.1)))),
+        ∙ ap (λ (l : List ℕ). append_known before.written l) (sym (take-append-le failed.part.0 first second (omega (arith, failed.part.1)))),
   );
 }
 
@@ -65,19 +66,19 @@ generation_lines-take_drop all n =
     ap generation_lines (sym (take-append-drop n all)) ∙ generation_lines_from-append 0 (take n all) (drop n all)
 
 -- The lines of the first i generations are out. Then that of generation i is written,
-pub generation_lines-written : {T E : Type 0} {y : T} (start now after : Option (List ℕ)) (all : List (ℕ × Bool)) (i : ℕ) (x : ℕ × Bool) → i < length all → x ≡ get_or all i x → now ≡ append_known start (generation_lines (take i all)) → WritesAllTo {E = E} now after (Ok y) (generation_line i x.0 x.1) → after ≡ append_known start (generation_lines (take (i + 1) all))
+pub generation_lines-written : {T E : Type 0} {y : T} (start now after : SinkTold) (all : List (ℕ × Bool)) (i : ℕ) (x : ℕ × Bool) → i < length all → x ≡ get_or all i x → now.written ≡ append_known start.written (generation_lines (take i all)) → WritesAllTo {E = E} (change now after) (Ok y) (generation_line i x.0 x.1) → after.written ≡ append_known start.written (generation_lines (take (i + 1) all))
 generation_lines-written start now after all i x within at so_far line =
     line.all
     ∙ ap (λ (o : Option (List ℕ)). append_known o (generation_line i x.0 x.1)) so_far
-    ∙ append_known-append_known start (generation_lines (take i all)) (generation_line i x.0 x.1)
-    ∙ ap (λ (l : List ℕ). append_known start l) (sym (generation_lines-take_more all i x within at))
+    ∙ append_known-append_known start.written (generation_lines (take i all)) (generation_line i x.0 x.1)
+    ∙ ap (λ (l : List ℕ). append_known start.written l) (sym (generation_lines-take_more all i x within at))
 
 -- or the write of it fails, and with it that of all lines.
-pub generation_lines-stopped : {T E : Type 0} {e : E} (start now after : Option (List ℕ)) (all : List (ℕ × Bool)) (i : ℕ) (x : ℕ × Bool) → i < length all → x ≡ get_or all i x → now ≡ append_known start (generation_lines (take i all)) → WritesAllTo {T = T} now after (Err e) (generation_line i x.0 x.1) → WritesAllTo {T = T} start after (Err e) (generation_lines all)
+pub generation_lines-stopped : {T E : Type 0} {e : E} (start now after : SinkTold) (all : List (ℕ × Bool)) (i : ℕ) (x : ℕ × Bool) → i < length all → x ≡ get_or all i x → now.written ≡ append_known start.written (generation_lines (take i all)) → WritesAllTo {T = T} (change now after) (Err e) (generation_line i x.0 x.1) → WritesAllTo {T = T} (change start after) (Err e) (generation_lines all)
 generation_lines-stopped {T} {E} {e} start now after all i x within at so_far line =
-    let so_far_all : WritesAllTo {T = Unit {0}} {E = E} start now (Ok (tt {0})) (generation_lines (take i all)) = record { all = so_far; part = tt } in
-    let both : WritesAllTo {T = T} start after (Err e) (generation_lines (take i all) ++ generation_line i x.0 x.1) = WritesAllTo-append start now after (Err e) _ _ so_far_all line in
-    let front : WritesAllTo {T = T} start after (Err e) (generation_lines (take (i + 1) all)) = rw (generation_lines-take_more all i x within at) both in
+    let so_far_all : WritesAllTo {T = Unit {0}} {E = E} (change start now) (Ok (tt {0})) (generation_lines (take i all)) = record { all = so_far; part = tt } in
+    let both : WritesAllTo {T = T} (change start after) (Err e) (generation_lines (take i all) ++ generation_line i x.0 x.1) = WritesAllTo-append start now after (Err e) _ _ so_far_all line in
+    let front : WritesAllTo {T = T} (change start after) (Err e) (generation_lines (take (i + 1) all)) = rw (generation_lines-take_more all i x within at) both in
     rw (generation_lines-take_drop all (i + 1)) (WritesAllTo-stopped start after _ _ front)
 
 -- what f makes of the item that a counted loop has at place i

@@ -1,8 +1,6 @@
 pub mod Answers
+pub mod Command
 pub mod Report
-pub mod Search
 pub mod Spaces
 pub mod Status
-pub mod Unpack
-pub mod UnpackExamples
-pub mod Words
+pub mod commands

@@ -1,9 +1,10 @@
 -- The text of a report: lines that each end with a line feed, of words and numbers that one space parts.
-use Rattle.std.specs.Prelude.{◌≡◌, ℕ, ◌+◌, Bool, true, false, if◌then◌else◌, List, [], ◌∷◌, ◌++◌, map, Option, is_some, refl, codes}
+use Rattle.std.specs.Prelude.{◌≡◌, ℕ, ◌+◌, ◌==◌, ◌||◌, Bool, true, false, if◌then◌else◌, List, [], ◌∷◌, ◌++◌, length, map, Option, is_some, refl, codes}
 use Rattle.std.specs.Fmt.{decimal, digits}
 use Rattle.std.specs.List.{zip}
 use Rattle.kk_rows.specs.Space.{Space}
 use Rattle.kk_rows.specs.Span.{dimension}
+use Rattle.kk_top.specs.Command.{status_line}
 
 -- how many generations there are
 abbrev pub count_line : ℕ → List ℕ
@@ -32,6 +33,15 @@ outcome generation = (dimension generation.0.rows, is_some generation.1)
 -- the outcomes of all generations, of which each has its space and its answer
 abbrev pub outcomes : List Space → List (Option (List ℕ)) → List (ℕ × Bool)
 outcomes spaces answers = map outcome (zip spaces answers)
+
+-- what a report says of the generations, by their spaces and answers: nothing but at 0 and 3
+abbrev pub outcome_lines : ℕ → List Space → List (Option (List ℕ)) → List ℕ
+outcome_lines status spaces answers =
+    if (status == 0) || (status == 3) then count_line (length spaces) ++ generation_lines (outcomes spaces answers) else []
+
+-- and the whole report
+abbrev pub outcome_report : ℕ → List Space → List (Option (List ℕ)) → List ℕ
+outcome_report status spaces answers = outcome_lines status spaces answers ++ status_line status
 
 -- two generations, the first decoded
 pub two_generations : count_line 2 ++ generation_lines ((2, true) ∷ (0, false) ∷ []) ≡ codes "generations 2\ngeneration 0 rank 2 decoded\ngeneration 1 rank 0 none\n"

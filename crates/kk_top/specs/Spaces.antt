@@ -1,13 +1,17 @@
--- The row spaces of a receiver, one for each generation.
-use Rattle.std.specs.Prelude.{◌≡◌, ℕ, ◌<◌, List, [], length, drop, Option, Some, IfSome}
+-- The row spaces of a receiver, one for each generation, and what an unpacking leaves in them.
+use Rattle.std.specs.Prelude.{◌≡◌, ◌↔◌, ◌⊎◌, ℕ, ◌<◌, List, [], length, Option, None, IfSome, IsSomeAnd}
 use Rattle.std.specs.List.{slice_index_or}
 use Rattle.kk_rows.specs.Span.{in_span}
 use Rattle.kk_rows.specs.Space.{Space}
+use Rattle.kk_outside.specs.Causes.{CanCount}
+use Rattle.kk_outside.specs.Change.{Change}
+use Rattle.kk_outside.specs.Source.{SourceTold, SourceFailed, bytes_read}
+use Rattle.kk_outside.specs.Sink.{SinkTold, SinkFailed, WasGiven}
 use Rattle.kk_code.specs.Codeword.{width}
 use Rattle.kk_code.specs.Ticket.{TicketFields, generations}
-use Rattle.kk_frame.specs.Gate.{pieces, taken}
 use Rattle.kk_top.specs.Answers.{rows_of, answers}
-use Rattle.kk_top.specs.Unpack.{most, read_length, Change, Works}
+use Rattle.kk_top.specs.Command.{MayTouchFile}
+use Rattle.kk_top.specs.commands.Unpack.{vectors_of, unpacked, ReadsUpToStop, FailsBeforeStop, LeavesRemainder}
 
 -- a space of rows of this width, which these rows span
 pub record Spans (w : ℕ) (space : Space) (rows : List ℕ) : Type 0 where
@@ -22,18 +26,20 @@ pub record AreSpanned (t : TicketFields) (spaces : List Space) (vectors : List (
   pub count : length spaces ≡ generations t
   pub each : (g : ℕ) → g < generations t → Spans (width t.code) (slice_index_or spaces g no_space) (rows_of g vectors)
 
--- The spaces are those of some data frames. Where the source told its bytes, these are the data frames up to the stop,
--- and what is left of the source are the bytes behind it.
-pub record AreReceived (t : TicketFields) (start after : Option (List ℕ)) (spaces : List Space) : Type 0 where
-  pub vectors : List (ℕ × ℕ)
-  pub spanned : AreSpanned t spaces vectors
-  pub taken : IfSome start (λ bytes. vectors ≡ taken t most (pieces bytes))
-  pub left : IfSome start (λ bytes. after ≡ Some (drop (read_length t bytes) bytes))
+-- The capture was read up to the stop, and the spaces are those of its data frames.
+pub record AreReceived (t : TicketFields) (source : Change SourceTold) (spaces : List Space) : Type 0 where
+  pub read : ReadsUpToStop t source
+  pub left : IfSome source.old.left (λ bytes. LeavesRemainder t bytes source)
+  pub spanned : AreSpanned t spaces (vectors_of t (bytes_read source))
 
 -- What an unpacking came to, and what it holds for the report: unless the source failed, the space and the answer of
 -- each generation.
-pub record IsUnpacked (t : TicketFields) (status : ℕ) (source file : Change) (spaces : List Space) (found : List (Option (List ℕ))) : Type 0 where
-  pub vectors : List (ℕ × ℕ)
-  pub work : Works t status source file vectors
-  pub spanned : (status ≡ 4 → ⊥) → AreSpanned t spaces vectors
-  pub answered : (status ≡ 4 → ⊥) → found ≡ answers t vectors
+pub record IsUnpacked (t : TicketFields) (status : ℕ) (source : Change SourceTold) (file : Change SinkTold) (spaces : List Space) (found : List (Option (List ℕ))) : Type 0 where
+  pub failed : status ≡ 4 → FailsBeforeStop t source
+  pub received : (status ≡ 4 → ⊥) → AreReceived t source spaces
+  pub counted : CanCount source.old.faults → ((status ≡ 4) ↔ SourceFailed source)
+  pub answered : (status ≡ 4 → ⊥) → found ≡ answers t (vectors_of t (bytes_read source))
+  pub not_decoded : (status ≡ 4 → ⊥) → ((status ≡ 3) ↔ (unpacked t (bytes_read source) ≡ None))
+  pub written : MayTouchFile status → IsSomeAnd (unpacked t (bytes_read source)) (λ text. WasGiven text file)
+  pub output_fault : CanCount file.old.faults → MayTouchFile status → ((status ≡ 5) ↔ SinkFailed file)
+  pub no_other : (status ≡ 3) ⊎ ((status ≡ 4) ⊎ MayTouchFile status)

@@ -1,7 +1,8 @@
 //! The lines of a report on the generations.
 ghost use Rattle.std.specs.Prelude.{◌≡◌, ◌++◌, length};
 ghost use Rattle.kk_outside.specs.Causes.{HasCause};
-ghost use Rattle.kk_outside.specs.Writes.{WritesAllTo};
+ghost use Rattle.kk_outside.specs.Change.{change};
+ghost use Rattle.kk_outside.specs.Sink.{WritesAllTo};
 ghost use Rattle.kk_top.specs.Report.{count_line, generation_line, generation_lines, outcomes};
 
 use arrayvec::ArrayString;
@@ -16,28 +17,29 @@ type Line = ArrayString<64>;
 /// Writes how many generations there are, and then a line for each: its number, counted from 0, the rank of its space,
 /// and whether it has an answer. `answers` has one for each space. After `Failed` a part from the front of the text may
 /// be out, and nothing more is written.
-pub fn write_generations<P: Sink>(
+pub(crate) fn write_generations<P: Sink>(
     report: &mut P,
     spaces: &[RowSpace],
     answers: &[Option<Message>],
 ) -> Result<(), Failed>
     requires { length answers.now ≡ length spaces.now }
-    ensures writes { WritesAllTo (P.written report.old) (P.written report.new) result
+    ensures writes { WritesAllTo (change (P.told report.old) (P.told report.new)) result
         (count_line (length spaces.now) ++ generation_lines (outcomes spaces.now answers.now)) }
-    ensures cause { HasCause (P.faults report.old) (P.faults report.new) result }
+    ensures cause { HasCause (P.told report.old).faults (P.told report.new).faults result }
 {
     write_all(report, count_line(spaces.len()).as_str().as_bytes())?;
     write_generation_lines(report, spaces, answers)
 }
 
+/// Writes the lines of the generations.
 fn write_generation_lines<P: Sink>(
     report: &mut P,
     spaces: &[RowSpace],
     answers: &[Option<Message>],
 ) -> Result<(), Failed>
-    ensures writes { WritesAllTo (P.written report.old) (P.written report.new) result
+    ensures writes { WritesAllTo (change (P.told report.old) (P.told report.new)) result
         (generation_lines (outcomes spaces.now answers.now)) }
-    ensures cause { HasCause (P.faults report.old) (P.faults report.new) result }
+    ensures cause { HasCause (P.told report.old).faults (P.told report.new).faults result }
 {
     for (number, (space, answer)) in spaces.iter().zip(answers).enumerate() {
         let line = generation_line(number, space.rank(), answer.is_some());
@@ -46,6 +48,7 @@ fn write_generation_lines<P: Sink>(
     Ok(())
 }
 
+/// The line that tells how many generations there are.
 fn count_line(count: usize) -> Line
     ensures { result.bytes ≡ count_line count }
 {
@@ -57,6 +60,7 @@ fn count_line(count: usize) -> Line
     line
 }
 
+/// The line of a generation.
 fn generation_line(number: usize, rank: u32, decoded: bool) -> Line
     ensures { result.bytes ≡ generation_line number rank decoded }
 {

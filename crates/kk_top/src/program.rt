@@ -1,7 +1,12 @@
-// The whole program, over the objects that it is handed.
-ghost use Rattle.std.specs.Prelude.{◌≡◌};
-ghost use Rattle.kk_top.specs.Unpack.{Runs, IsRefusal, IsWritten, change};
-ghost use Rattle.kk_top.specs.Words.{texts};
+//! The whole program, over the objects that it is handed.
+ghost use Rattle.std.specs.Prelude.{◌≡◌, ◌↔◌, ◌⊎◌, ℕ, List, [], Some, None, IfSome, IsSomeAnd};
+ghost use Rattle.kk_outside.specs.Causes.{CanCount};
+ghost use Rattle.kk_outside.specs.Change.{change};
+ghost use Rattle.kk_outside.specs.Source.{SourceFailed, bytes_read};
+ghost use Rattle.kk_outside.specs.Sink.{SinkFailed, WasGiven};
+ghost use Rattle.kk_code.specs.Ticket.{TicketFields};
+ghost use Rattle.kk_top.specs.Command.{texts, IsRefusal, MayTouchFile, status_line};
+ghost use Rattle.kk_top.specs.commands.Unpack.{IsUnpackCommand, NamesNoTicket, UnpacksUnder, unpacked, ReadsUpToStop, FailsBeforeStop, LeavesRemainder, LeavesMore, IsReported, IsUnpackStatus};
 
 use crate::run_unpack;
 use kk_outside::{Sink, Source};
@@ -9,23 +14,53 @@ use std::alloc::Global;
 
 /// Runs the command that the words name, and answers its status.
 ///
-/// `words` are those of the command line, without the program's name. So far the one command is `unpack`.
-pub fn run<S: Source, K: Sink, P: Sink>(
-    _rt: &HostRuntime,
+/// `words` are those of the command line, without the program's name. So far the one command is `unpack`. `_rt` is the
+/// runtime, with no bound: nothing can be printed or opened by it.
+pub fn run<R, S: Source, K: Sink, P: Sink>(
+    _rt: &R,
     alloc: Global,
     words: &[String],
     source: &mut S,
     file: &mut K,
     report: &mut P,
 ) -> u8
-    ensures runs { Runs (texts words.now) result
-        (change (S.left source.old) (S.faults source.old) (S.left source.new) (S.faults source.new))
-        (change (K.written file.old) (K.faults file.old) (K.written file.new) (K.faults file.new))
-        (change (P.written report.old) (P.faults report.old) (P.written report.new) (P.faults report.new)) }
+    // Which status comes: 8 is want of memory, and 0 comes where no other status does.
+    ensures words_refused { (result ≡ 1) ↔ ((text : List ℕ) → IsUnpackCommand (texts words.now) text → ⊥) }
+    ensures ticket_refused { (result ≡ 2) ↔ NamesNoTicket (texts words.now) }
+    ensures not_decoded { (t : TicketFields) → UnpacksUnder t (texts words.now) result → (result ≡ 4 → ⊥)
+        → ((result ≡ 3) ↔ (unpacked t (bytes_read (change (S.told source.old) (S.told source.new))) ≡ None)) }
+    ensures input_fault { CanCount (S.told source.old).faults
+        → ((result ≡ 4) ↔ SourceFailed (change (S.told source.old) (S.told source.new))) }
+    ensures output_fault { CanCount (K.told file.old).faults → CanCount (P.told report.old).faults → MayTouchFile result
+        → ((result ≡ 5) ↔ (SinkFailed (change (K.told file.old) (K.told file.new)) ⊎ SinkFailed (change (P.told report.old) (P.told report.new)))) }
+    ensures no_other_status { IsUnpackStatus result }
 
-    // No call was made on the source, or on the file's sink.
+    // What was read: nothing after a refusal, else exactly the bytes up to the stop, unless a read failed before it.
     ensures unread { IsRefusal result → source.new ≡ source.old }
-    ensures unwritten { (IsWritten result → ⊥) → file.new ≡ file.old }
+    ensures read_to_stop { (t : TicketFields) → UnpacksUnder t (texts words.now) result → (result ≡ 4 → ⊥)
+        → ReadsUpToStop t (change (S.told source.old) (S.told source.new)) }
+    ensures failed_before_stop { (t : TicketFields) → UnpacksUnder t (texts words.now) result → result ≡ 4
+        → FailsBeforeStop t (change (S.told source.old) (S.told source.new)) }
+
+    // The same where the source tells the bytes that it has left.
+    ensures remainder { (t : TicketFields) → UnpacksUnder t (texts words.now) result → (result ≡ 4 → ⊥)
+        → IfSome (S.told source.old).left (λ bytes. LeavesRemainder t bytes (change (S.told source.old) (S.told source.new))) }
+    ensures more_left { (t : TicketFields) → UnpacksUnder t (texts words.now) result → result ≡ 4
+        → IfSome (S.told source.old).left (λ bytes. LeavesMore t bytes (change (S.told source.old) (S.told source.new))) }
+
+    // What the file's sink holds. An empty file makes no call on it.
+    ensures unwritten { (MayTouchFile result → ⊥) → file.new ≡ file.old }
+    ensures no_bytes { (t : TicketFields) → UnpacksUnder t (texts words.now) result
+        → unpacked t (bytes_read (change (S.told source.old) (S.told source.new))) ≡ Some [] → file.new ≡ file.old }
+    ensures file { (t : TicketFields) → UnpacksUnder t (texts words.now) result → MayTouchFile result
+        → IsSomeAnd (unpacked t (bytes_read (change (S.told source.old) (S.told source.new))))
+        (λ text. WasGiven text (change (K.told file.old) (K.told file.new))) }
+
+    // What the report's sink holds.
+    ensures refused { IsRefusal result → WasGiven (status_line result) (change (P.told report.old) (P.told report.new)) }
+    ensures reported { (t : TicketFields) → UnpacksUnder t (texts words.now) result
+        → IsReported t (bytes_read (change (S.told source.old) (S.told source.new))) result
+        (change (K.told file.old) (K.told file.new)) (change (P.told report.old) (P.told report.new)) }
 {
     run_unpack(alloc, words, source, file, report)
 }

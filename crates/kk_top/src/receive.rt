@@ -1,6 +1,8 @@
-// The frames of a source, into one row space for each generation.
-ghost use Rattle.std.specs.Prelude.{[], OnOk};
+//! The frames of a source, into one row space for each generation.
+ghost use Rattle.std.specs.Prelude.{[], OnOk, OnErr};
 ghost use Rattle.kk_outside.specs.Causes.{HasCause};
+ghost use Rattle.kk_outside.specs.Change.{change};
+ghost use Rattle.kk_top.specs.commands.Unpack.{FailsBeforeStop};
 ghost use Rattle.kk_top.specs.Spaces.{AreSpanned, AreReceived};
 
 use kk_code::Ticket;
@@ -12,20 +14,22 @@ use kk_rows::RowSpace;
 const FRAME_BYTES: usize = 20;
 
 /// The most pieces that are taken of a source.
-const MOST: u32 = 10_000_000;
+pub const MAX_PIECES: u32 = 10_000_000;
 
-/// Takes the frames of a source up to END: its bytes are cut into pieces of the length of a frame, and a shorter rest
-/// is one last piece. Each data frame's row goes into the space of its generation; what is no frame is passed over.
-pub fn take_frames<S: Source>(
+/// Takes the frames of a source up to END: its bytes are cut into pieces of the length of a frame, and a shorter
+/// remainder is one last piece. Each data frame's row goes into the space of its generation; what is no frame is passed
+/// over.
+pub(crate) fn take_frames<S: Source>(
     source: &mut S,
     ticket: &Ticket,
     spaces: &mut [RowSpace],
 ) -> Result<(), Failed>
     requires { AreSpanned ticket.now spaces.old [] }
-    ensures received { OnOk result (AreReceived ticket.now (S.left source.old) (S.left source.new) spaces.new) }
-    ensures cause { HasCause (S.faults source.old) (S.faults source.new) result }
+    ensures received { OnOk result (AreReceived ticket.now (change (S.told source.old) (S.told source.new)) spaces.new) }
+    ensures failed { OnErr result (FailsBeforeStop ticket.now (change (S.told source.old) (S.told source.new))) }
+    ensures cause { HasCause (S.told source.old).faults (S.told source.new).faults result }
 {
-    'pieces: for _ in 0..MOST {
+    'pieces: for _ in 0..MAX_PIECES {
         let mut piece = [0; FRAME_BYTES];
         if fill(source, &mut piece)? < FRAME_BYTES {
             return Ok(());

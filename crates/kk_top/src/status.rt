@@ -1,6 +1,7 @@
+//! How a run ended.
 ghost use Rattle.std.specs.Prelude.{◌≡◌};
 ghost use Rattle.kk_top.specs.Status.{code_of};
-ghost use Rattle.kk_top.specs.Unpack.{status_line};
+ghost use Rattle.kk_top.specs.Command.{status_line};
 
 /// How a run ended.
 #[derive(Clone, Copy, Debug, PartialEq, Eq)]
@@ -19,8 +20,6 @@ pub enum Status {
     OutputFault,
     /// There is no memory.
     Memory,
-    /// The messages of the ticket's code are too many to be tried one by one.
-    NotBuilt,
 }
 
 impl Status {
@@ -36,7 +35,6 @@ impl Status {
             Status::InputFault => 4,
             Status::OutputFault => 5,
             Status::Memory => 8,
-            Status::NotBuilt => 10,
         }
     }
 
@@ -52,7 +50,6 @@ impl Status {
             Status::InputFault => "status 4\n",
             Status::OutputFault => "status 5\n",
             Status::Memory => "status 8\n",
-            Status::NotBuilt => "status 10\n",
         }
     }
 }

@@ -1,13 +1,41 @@
 use super::*;
-use kk_outside::{MemorySink, MemorySource};
+use kk_outside::{MemorySink, MemorySource, Source, StdSource};
 use std::alloc::{AllocError, Global};
+use std::io;
+use std::io::Read;
 use std::test::Fail;
+
+/// Unpacks a capture that is held in memory, and drops the report: true where the file's sink has the file.
+fn unpack_bytes(
+    rt: &HostRuntime,
+    alloc: Global,
+    words: &[String],
+    bytes: Vec<u8>,
+    file: &mut MemorySink,
+) -> Result<bool, Alloc> {
+    let mut source = MemorySource::new(bytes, 4096, Vec::new(alloc));
+    let mut report = MemorySink::new(alloc, 1_000_000, 4096, Vec::new(alloc))?;
+    Ok(run(rt, alloc, words, &mut source, file, &mut report) == 0)
+}
 
 /// The ticket of a file of one byte: three generations, and rows of six bits.
 const ONE_BYTE: &str = "kk1:00000001:3:0000000000000003:3:1:1";
 
+/// The ticket of a file of three bytes: eight generations of the same code.
+const THREE_BYTES: &str = "kk1:00000001:3:0000000000000003:3:1:3";
+
 const DONE: &[u8] =
     b"generations 3\ngeneration 0 rank 3 decoded\ngeneration 1 rank 3 decoded\ngeneration 2 rank 3 decoded\nstatus 0\n";
+
+const CUT: &[u8] =
+    b"generations 3\ngeneration 0 rank 2 decoded\ngeneration 1 rank 0 none\ngeneration 2 rank 0 none\nstatus 3\n";
+
+/// The codewords of the symbols 0, 5 and 7 over GF(8) with the modulus X^3 + X + 1, for l = 3 and k = 1.
+const ZERO: [u8; 3] = [8, 16, 32];
+
+const FIVE: [u8; 3] = [13, 17, 34];
+
+const SEVEN: [u8; 3] = [15, 21, 33];
 
 /// A frame of session 1 with this kind, generation and row.
 fn frame(kind: u8, generation: u8, row: u8) -> [u8; 20] {
@@ -16,31 +44,37 @@ fn frame(kind: u8, generation: u8, row: u8) -> [u8; 20] {
     ]
 }
 
-/// The capture of the byte A0.
-fn capture(alloc: Global) -> Result<Vec<u8>, AllocError> {
+/// A capture of these rows, three for each generation, and an END frame.
+fn capture(alloc: Global, generations: &[[u8; 3]]) -> Result<Vec<u8>, AllocError> {
     let mut bytes = Vec::new(alloc);
-    for (generation, row) in [
-        (0, 13),
-        (0, 17),
-        (0, 34),
-        (1, 8),
-        (1, 16),
-        (1, 32),
-        (2, 8),
-        (2, 16),
-        (2, 32),
-    ] {
-        bytes.extend_from_slice(&frame(0, generation, row))?;
+    let mut number = 0u8;
+    for rows in generations {
+        for row in rows {
+            bytes.extend_from_slice(&frame(0, number, *row))?;
+        }
+        number = number.saturating_add(1);
     }
     bytes.extend_from_slice(&frame(1, 0, 0))?;
     Ok(bytes)
 }
 
-/// What is under a run: the words, the bytes of the source, and the numbers of the calls that fail.
+/// The first 50 bytes of a capture: two frames, and half of the third.
+fn front(bytes: &[u8]) -> &[u8] {
+    if bytes.len() < 50 {
+        bytes
+    } else {
+        &bytes[..50]
+    }
+}
+
+/// What is under a run: the words, the bytes of the source and how many a read gives, how many bytes the file's sink
+/// takes at once, and the numbers of the calls that fail.
 #[derive(Clone, Copy, Drop)]
 struct Setting<'a> {
     words: &'a [&'a str],
     bytes: &'a [u8],
+    read: usize,
+    write: usize,
     source_fails: &'a [u64],
     file_fails: &'a [u64],
     report_fails: &'a [u64],
@@ -54,15 +88,29 @@ struct Outcome {
     report: MemorySink,
 }
 
+fn texts(alloc: Global, words: &[&str]) -> Result<Vec<String>, AllocError> {
+    let mut texts = Vec::new(alloc);
+    for word in words {
+        texts.push(String::from_str(alloc, word)?)?;
+    }
+    Ok(texts)
+}
+
 fn run_in(rt: &HostRuntime, setting: &Setting) -> Result<Outcome, Fail> {
     let alloc = rt.alloc();
-    let mut words = Vec::new(alloc);
-    for word in setting.words {
-        words.push(String::from_str(alloc, word)?)?;
-    }
+    let words = texts(alloc, setting.words)?;
     let bytes = setting.bytes.to_vec(alloc)?;
-    let mut source = MemorySource::new(bytes, 20, setting.source_fails.to_vec(alloc)?);
-    let mut file = MemorySink::new(alloc, 100, 100, setting.file_fails.to_vec(alloc)?)?;
+    let mut source = MemorySource::new(
+        bytes,
+        setting.read.max(1),
+        setting.source_fails.to_vec(alloc)?,
+    );
+    let mut file = MemorySink::new(
+        alloc,
+        100,
+        setting.write.max(1),
+        setting.file_fails.to_vec(alloc)?,
+    )?;
     let mut report = MemorySink::new(alloc, 1000, 100, setting.report_fails.to_vec(alloc)?)?;
     let status = run(rt, alloc, &words, &mut source, &mut file, &mut report);
     Ok(Outcome {
@@ -72,11 +120,13 @@ fn run_in(rt: &HostRuntime, setting: &Setting) -> Result<Outcome, Fail> {
     })
 }
 
-/// The capture of one byte, with nothing that fails.
+/// A run over these bytes in which nothing fails.
 fn unfailing<'a>(words: &'a [&'a str], bytes: &'a [u8]) -> Setting<'a> {
     Setting {
         words,
         bytes,
+        read: 20,
+        write: 100,
         source_fails: &[],
         file_fails: &[],
         report_fails: &[],
@@ -84,50 +134,137 @@ fn unfailing<'a>(words: &'a [&'a str], bytes: &'a [u8]) -> Setting<'a> {
 }
 
 #[test]
-fn a_capture_whole_and_cut_short(rt: HostRuntime) -> Result<(), Fail> {
-    let mut bytes = capture(rt.alloc())?;
-    let words = ["unpack", ONE_BYTE];
-    let whole = run_in(&rt, &unfailing(&words, &bytes))?;
-    assert_eq!(rt; whole.status, 0);
-    assert_eq!(rt; whole.file.bytes(), [0xa0].as_slice());
-    assert_eq!(rt; whole.report.bytes(), DONE);
-
-    bytes.truncate(50);
-    let cut = run_in(&rt, &unfailing(&words, &bytes))?;
-    assert_eq!(rt; cut.status, 3);
-    assert_eq!(rt; cut.file.bytes(), [].as_slice());
-    assert_eq!(rt;
-        cut.report.bytes(),
-        b"generations 3\ngeneration 0 rank 2 decoded\ngeneration 1 rank 0 none\ngeneration 2 rank 0 none\nstatus 3\n".as_slice()
-    );
+fn words_and_captures(rt: HostRuntime) -> Result<(), Fail> {
+    let alloc = rt.alloc();
+    let whole = capture(alloc, &[FIVE, ZERO, ZERO])?;
+    let one_erased_one_injected = [
+        frame(0, 0, 16),
+        frame(0, 0, 38),
+        frame(0, 0, 71),
+        frame(0, 0, 1),
+    ];
+    for (words, bytes, status, file, report) in [
+        (
+            [].as_slice(),
+            b"".as_slice(),
+            1,
+            b"".as_slice(),
+            b"status 1\n".as_slice(),
+        ),
+        (&["unpack"], b"", 1, b"", b"status 1\n"),
+        (&["frob", ONE_BYTE], b"", 1, b"", b"status 1\n"),
+        (&["unpack", ONE_BYTE, "more"], b"", 1, b"", b"status 1\n"),
+        (
+            &["unpack", "kk1:00000001:4:0000000000000005:3:1:1"],
+            b"",
+            2,
+            b"",
+            b"status 2\n",
+        ),
+        (&["unpack", ONE_BYTE], whole.as_slice(), 0, b"\xa0", DONE),
+        (&["unpack", ONE_BYTE], front(&whole), 3, b"", CUT),
+        (
+            &["unpack", "kk1:00000001:3:0000000000000003:3:1:0"],
+            b"",
+            0,
+            b"",
+            b"generations 0\nstatus 0\n",
+        ),
+        (
+            &["unpack", "kk1:00000001:4:0000000000000003:4:2:1"],
+            one_erased_one_injected.as_flattened(),
+            0,
+            b"\x11",
+            b"generations 1\ngeneration 0 rank 4 decoded\nstatus 0\n",
+        ),
+        (
+            &["unpack", "kk1:00000001:8:000000000000001b:8:2:1"],
+            b"",
+            3,
+            b"",
+            b"generations 1\ngeneration 0 rank 0 none\nstatus 3\n",
+        ),
+    ] {
+        let outcome = run_in(&rt, &unfailing(words, bytes))?;
+        assert_eq!(rt; outcome.status, status);
+        assert_eq!(rt; outcome.file.bytes(), file);
+        assert_eq!(rt; outcome.report.bytes(), report);
+    }
     Ok(())
 }
 
+/// Each call of the source and the sinks fails in turn: the status, and what the sinks hold then.
 #[test]
-fn failures_of_the_source_and_the_sinks(rt: HostRuntime) -> Result<(), Fail> {
-    let bytes = capture(rt.alloc())?;
-    for (source_fails, file_fails, report_fails, status, file, report) in [
-        (
-            [1].as_slice(),
-            [].as_slice(),
-            [].as_slice(),
-            4,
-            b"".as_slice(),
-            b"status 4\n".as_slice(),
-        ),
-        (&[], &[0], &[], 5, b"", b"status 5\n"),
-        (&[], &[], &[0], 5, b"\xa0", b""),
-        (&[], &[], &[1], 5, b"\xa0", b"generations 3\n"),
-        (&[1], &[], &[0], 4, b"", b""),
-    ] {
+fn every_call_fails_in_turn(rt: HostRuntime) -> Result<(), Fail> {
+    let alloc = rt.alloc();
+    let one = capture(alloc, &[FIVE, ZERO, ZERO])?;
+    let three = capture(alloc, &[FIVE, ZERO, ZERO, FIVE, ZERO, SEVEN, SEVEN, SEVEN])?;
+    let one = unfailing(&["unpack", ONE_BYTE], &one);
+    let three = Setting {
+        write: 1,
+        ..unfailing(&["unpack", THREE_BYTES], &three)
+    };
+    for read in 0..201 {
+        let fails = [read];
         let outcome = run_in(
             &rt,
             &Setting {
-                words: &["unpack", ONE_BYTE],
-                bytes: &bytes,
+                read: 1,
+                source_fails: &fails,
+                ..one
+            },
+        )?;
+        // Read number 200 is never made, since END stands before it.
+        let (status, file) = if read < 200 {
+            (4, b"".as_slice())
+        } else {
+            (0, b"\xa0".as_slice())
+        };
+        assert_eq!(rt; outcome.status, status);
+        assert_eq!(rt; outcome.file.bytes(), file);
+    }
+    for (write, status, file) in [
+        (0, 5, b"".as_slice()),
+        (1, 5, b"\xa0"),
+        (2, 5, b"\xa0\x51"),
+        (3, 0, b"\xa0\x51\xff"),
+    ] {
+        let fails = [write];
+        let outcome = run_in(
+            &rt,
+            &Setting {
+                file_fails: &fails,
+                ..three
+            },
+        )?;
+        assert_eq!(rt; outcome.status, status);
+        assert_eq!(rt; outcome.file.bytes(), file);
+        if status == 5 {
+            assert_eq!(rt; outcome.report.bytes(), b"status 5\n".as_slice());
+        }
+    }
+    for (bytes, source_fails, write, status, file, report) in [
+        (
+            one.bytes,
+            [].as_slice(),
+            0,
+            5,
+            b"\xa0".as_slice(),
+            b"".as_slice(),
+        ),
+        (one.bytes, &[], 1, 5, b"\xa0", b"generations 3\n"),
+        (front(one.bytes), &[], 0, 3, b"", b""),
+        (one.bytes, &[1], 0, 4, b"", b""),
+        (one.bytes, &[1], 1, 4, b"", b"status 4\n"),
+    ] {
+        let fails = [write];
+        let outcome = run_in(
+            &rt,
+            &Setting {
+                bytes,
                 source_fails,
-                file_fails,
-                report_fails,
+                report_fails: &fails,
+                ..one
             },
         )?;
         assert_eq!(rt; outcome.status, status);
@@ -137,41 +274,85 @@ fn failures_of_the_source_and_the_sinks(rt: HostRuntime) -> Result<(), Fail> {
     Ok(())
 }
 
+/// There is memory for the largest ticket: 16,384 generations, each told by a line.
 #[test]
-fn words_that_start_nothing(rt: HostRuntime) -> Result<(), Fail> {
-    for (words, status, report) in [
-        ([].as_slice(), 1, b"status 1\n".as_slice()),
-        (&["unpack"], 1, b"status 1\n"),
-        (&["frob", ONE_BYTE], 1, b"status 1\n"),
-        (&["unpack", ONE_BYTE, "more"], 1, b"status 1\n"),
-        (
-            &["unpack", "kk1:00000001:4:0000000000000005:3:1:1"],
-            2,
-            b"status 2\n",
-        ),
-        (
-            &["unpack", "kk1:00000001:8:000000000000001b:8:2:1"],
-            10,
-            b"status 10\n",
-        ),
-    ] {
-        let outcome = run_in(&rt, &unfailing(words, b""))?;
-        assert_eq!(rt; outcome.status, status);
-        assert_eq!(rt; outcome.file.bytes(), [].as_slice());
-        assert_eq!(rt; outcome.report.bytes(), report);
+fn the_largest_ticket_without_input(rt: HostRuntime) -> Result<(), Fail> {
+    let alloc = rt.alloc();
+    let words = texts(
+        alloc,
+        &["unpack", "kk1:00000001:2:0000000000000003:1:1:4096"],
+    )?;
+    let mut source = MemorySource::new(Vec::new(alloc), 1, Vec::new(alloc));
+    let mut file = MemorySink::new(alloc, 1, 1, Vec::new(alloc))?;
+    let mut report = MemorySink::new(alloc, 500_000, 100, Vec::new(alloc))?;
+    assert_eq!(rt;
+        run(&rt, alloc, &words, &mut source, &mut file, &mut report),
+        3
+    );
+    let text = report.bytes();
+    assert_eq!(rt; text.len(), 464_053);
+    assert_eq!(rt;
+        text.starts_with(b"generations 16384\ngeneration 0 rank 0 none\n"),
+        true
+    );
+    assert_eq!(rt;
+        text.ends_with(b"generation 16383 rank 0 none\nstatus 3\n"),
+        true
+    );
+    Ok(())
+}
+
+/// A reader that has bytes again after an end, as a terminal has.
+#[derive(Drop)]
+struct Terminal<'a> {
+    before: &'a [u8],
+    has_ended: bool,
+    after: &'a [u8],
+}
+
+impl<'a> Read for Terminal<'a> {
+    fn read(&mut self, buf: &mut [u8]) -> io::Result<usize> {
+        if !self.before.is_empty() {
+            return self.before.read(buf);
+        }
+        if !self.has_ended {
+            self.has_ended = true;
+            return Ok(0);
+        }
+        self.after.read(buf)
     }
+}
+
+#[test]
+fn bytes_after_an_end_stay_with_the_source(rt: HostRuntime) -> Result<(), Fail> {
+    let alloc = rt.alloc();
+    let bytes = capture(alloc, &[FIVE, ZERO, ZERO])?;
+    let words = texts(alloc, &["unpack", ONE_BYTE])?;
+    let mut source = StdSource::new(Terminal {
+        before: front(&bytes),
+        has_ended: false,
+        after: &[1, 2, 3],
+    });
+    let mut file = MemorySink::new(alloc, 1, 1, Vec::new(alloc))?;
+    let mut report = MemorySink::new(alloc, 1000, 100, Vec::new(alloc))?;
+    assert_eq!(rt;
+        run(&rt, alloc, &words, &mut source, &mut file, &mut report),
+        3
+    );
+    assert_eq!(rt; report.bytes(), CUT);
+    let mut buf = [0; 4];
+    assert_eq!(rt; source.read(&mut buf), Ok(3));
+    assert_eq!(rt; &buf[..3], [1, 2, 3].as_slice());
     Ok(())
 }
 
 #[test]
-fn a_file_of_no_bytes(rt: HostRuntime) -> Result<(), Fail> {
-    let words = ["unpack", "kk1:00000001:3:0000000000000003:3:1:0"];
-    let outcome = run_in(&rt, &unfailing(&words, b""))?;
-    assert_eq!(rt; outcome.status, 0);
-    assert_eq!(rt; outcome.file.bytes(), [].as_slice());
-    assert_eq!(rt;
-        outcome.report.bytes(),
-        b"generations 0\nstatus 0\n".as_slice()
-    );
+fn a_capture_in_memory(rt: HostRuntime) -> Result<(), Fail> {
+    let alloc = rt.alloc();
+    let bytes = capture(alloc, &[FIVE, ZERO, ZERO])?;
+    let words = texts(alloc, &["unpack", ONE_BYTE])?;
+    let mut file = MemorySink::new(alloc, 1, 1, Vec::new(alloc))?;
+    assert_eq!(rt; unpack_bytes(&rt, alloc, &words, bytes, &mut file)?, true);
+    assert_eq!(rt; file.bytes(), [0xa0].as_slice());
     Ok(())
 }

@@ -24,6 +24,7 @@ YieldsList-from_pairs xs ys first second counted =
 
 pub loop-number-preserved : goal.loop-number-preserved
 loop-number-preserved g c =
+    let told = g.P.Sink.told in
     let spaces = c.args.spaces.now in
     let answers = c.args.answers.now in
     let at = YieldsList-turn {s = c.into_iter-number-iterator.result} (YieldsList-from_pairs spaces answers (cc) (cc) (cc)) c.loop-number.yielded c.loop-number.number-iterator c.loop-number.yielded_by _ c.next.new.self (c.in-Some.number, (c.in-Some.space, c.in-Some.answer)) c.in-Some.is c.next.ensures.steps in
@@ -33,12 +34,13 @@ loop-number-preserved g c =
       written =
           let line = rw text at c.in_ok-write_all.ensures.writes in
           rw (length_push c.loop-number.yielded (c.in-Some.number, (c.in-Some.space, c.in-Some.answer)))
-          (generation_lines-written _ _ _ (outcomes spaces answers) (length c.loop-number.yielded) (outcome (c.in-Some.space.now, c.in-Some.answer.now)) turn.1 turn.2 c.loop-number.invariant.written line);
+          (generation_lines-written (told c.args.report.now) (told c.loop-number.report) (told c.write_all.new.sink) (outcomes spaces answers) (length c.loop-number.yielded) (outcome (c.in-Some.space.now, c.in-Some.answer.now)) turn.1 turn.2 c.loop-number.invariant.written line);
       same = c.in_ok-write_all.ensures.cause.kept ∙ c.loop-number.invariant.same;
     }
 
 pub returns-in_err-write_all : goal.returns-in_err-write_all
 returns-in_err-write_all g c =
+    let told = g.P.Sink.told in
     let spaces = c.args.spaces.now in
     let answers = c.args.answers.now in
     let at = YieldsList-turn {s = c.into_iter-number-iterator.result} (YieldsList-from_pairs spaces answers (cc) (cc) (cc)) c.loop-number.yielded c.loop-number.number-iterator c.loop-number.yielded_by _ c.next.new.self (c.in-Some.number, (c.in-Some.space, c.in-Some.answer)) c.in-Some.is c.next.ensures.steps in
@@ -48,7 +50,7 @@ returns-in_err-write_all g c =
     let p = err_from_is_err_and c.from_residual.result c.from_residual.ensures.1 in
     rw (p.1, p.2)
     (record {
-      writes = generation_lines-stopped _ _ _ (outcomes spaces answers) (length c.loop-number.yielded) (outcome (c.in-Some.space.now, c.in-Some.answer.now)) turn.1 turn.2 c.loop-number.invariant.written line;
+      writes = generation_lines-stopped (told c.args.report.now) (told c.loop-number.report) (told c.write_all.new.sink) (outcomes spaces answers) (length c.loop-number.yielded) (outcome (c.in-Some.space.now, c.in-Some.answer.now)) turn.1 turn.2 c.loop-number.invariant.written line;
       cause = rw c.loop-number.invariant.same at c.in_err-write_all.ensures.cause;
     })
 
@@ -62,7 +64,7 @@ returns g c =
     record {
       writes = record {
         all = c.loop-number.invariant.written
-            ∙ ap (λ (l : List (ℕ × Bool)). append_known (g.P.Sink.written c.args.report.now) (generation_lines l)) (take_all (length c.loop-number.yielded) (outcomes spaces answers) (le_of_eq (sym all)));
+            ∙ ap (λ (l : List (ℕ × Bool)). append_known (g.P.Sink.told c.args.report.now).written (generation_lines l)) (take_all (length c.loop-number.yielded) (outcomes spaces answers) (le_of_eq (sym all)));
         part = tt;
       };
       cause = record { later = le_of_eq (sym c.loop-number.invariant.same); failed = tt; kept = c.loop-number.invariant.same };

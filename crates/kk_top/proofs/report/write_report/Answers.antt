@@ -1,6 +1,6 @@
 use Rattle.std.proofs.Common.{◌≡◌, ◌∙◌}
 use Rattle.kk_top.specs.Status.{code_of}
-use Rattle.kk_top.specs.Unpack.{status_line}
+use Rattle.kk_top.specs.Command.{status_line}
 use Rattle.kk_top.proofs.Texts.{WritesAllTo-append}
 use Rattle.kk_top.proofs.report.write_report.Goals as goal
 

@@ -29,7 +29,3 @@ returns-in-OutputFault c = rw c.in-OutputFault.is refl
 pub returns-in-Memory : goal.returns-in-Memory
 unfolding digits
 returns-in-Memory c = rw c.in-Memory.is refl
-
-pub returns-in-NotBuilt : goal.returns-in-NotBuilt
-unfolding digits
-returns-in-NotBuilt c = rw c.in-NotBuilt.is refl

@@ -1,0 +1,3 @@
+pub mod Unpack
+pub mod UnpackWords
+pub mod UnpackExamples

@@ -1,0 +1,146 @@
+//! An unpacking: all its memory, and its steps.
+ghost use Rattle.std.specs.Prelude.{◌≡◌, ◌<◌, ◌≤◌, ℕ, List, [], length, map, vec_len, vec_capacity, IfOk, IfSome, Some, None, OnOk, OnErr, All};
+ghost use Rattle.std.specs.Bool.{OnTrue, OnFalse};
+ghost use Rattle.kk_outside.specs.Causes.{HasCause};
+ghost use Rattle.kk_outside.specs.Change.{change};
+ghost use Rattle.kk_outside.specs.Source.{bytes_read};
+ghost use Rattle.kk_code.specs.Codeword.{IsMessage, width};
+ghost use Rattle.kk_code.specs.Decoding.{answer};
+ghost use Rattle.kk_code.specs.Ticket.{generations};
+ghost use Rattle.kk_top.specs.Answers.{answers, file_text};
+ghost use Rattle.kk_top.specs.Command.{MayTouchFile};
+ghost use Rattle.kk_top.specs.Status.{code_of};
+ghost use Rattle.kk_top.specs.commands.Unpack.{FailsBeforeStop, unpacked};
+ghost use Rattle.kk_top.specs.Spaces.{AreReceived, AreSpanned, IsUnpacked};
+
+use crate::receive::take_frames;
+use crate::status::Status;
+use kk_assemble::join;
+use kk_code::{Code, Message, Ticket};
+use kk_decode::{Scratch, decode_space};
+use kk_field::Steps;
+use kk_outside::{Alloc, Failed, Sink, Source, write_all};
+use kk_rows::RowSpace;
+use std::alloc::Global;
+use std::marker::Brand;
+use std::sync::ledger::{Blank, Ledger};
+
+/// An unpacking under a ticket: a row space for each generation, room for an answer each, and the bytes of the file.
+#[derive(Drop)]
+pub(crate) struct Unpacking {
+    pub(crate) spaces: Vec<RowSpace>,
+    pub(crate) answers: Vec<Option<Message>>,
+    file: Vec<u8>,
+}
+
+impl Unpacking {
+    /// Takes all the memory that it needs.
+    pub(crate) fn new(alloc: Global, ticket: &Ticket) -> Result<Unpacking, Alloc>
+        ensures spaces { IfOk result (λ unpacking. AreSpanned ticket.now unpacking.spaces.items []) }
+        ensures answers { IfOk result (λ unpacking. unpacking.answers.items ≡ []) }
+        ensures room { IfOk result (λ unpacking. generations ticket.now ≤ vec_capacity unpacking.answers) }
+        ensures file { IfOk result (λ unpacking. vec_len unpacking.file ≡ ticket.now.length) }
+    {
+        let generations = ticket.generations() as usize;
+        let width = ticket.code().width();
+        let mut spaces = Vec::with_capacity(alloc, generations)?;
+        for _ in 0..generations {
+            spaces.push_reserved(RowSpace::new(width));
+        }
+        let answers = Vec::with_capacity(alloc, generations)?;
+        let mut file = Vec::new(alloc);
+        file.resize(ticket.length() as usize, 0)?;
+        Ok(Unpacking {
+            spaces,
+            answers,
+            file,
+        })
+    }
+
+    /// Takes the frames of the source, decodes each generation, and writes the file.
+    pub(crate) fn run<S: Source, K: Sink>(
+        &mut self,
+        ticket: &Ticket,
+        source: &mut S,
+        file: &mut K,
+    ) -> Status
+        requires spaces { AreSpanned ticket.now self.old.spaces.items [] }
+        requires answers { self.old.answers.items ≡ [] }
+        requires room { generations ticket.now ≤ vec_capacity self.old.answers }
+        requires file { vec_len self.old.file ≡ ticket.now.length }
+        ensures unpacked { IsUnpacked ticket.now (code_of result) (change (S.told source.old) (S.told source.new))
+            (change (K.told file.old) (K.told file.new)) self.new.spaces.items self.new.answers.items }
+        ensures unwritten { (MayTouchFile (code_of result) → ⊥) → file.new ≡ file.old }
+        ensures no_bytes { unpacked ticket.now (bytes_read (change (S.told source.old) (S.told source.new))) ≡ Some []
+            → file.new ≡ file.old }
+    {
+        if self.receive(source, ticket).is_err() {
+            return Status::InputFault;
+        }
+        if !self.decode(ticket) {
+            return Status::NotDecoded;
+        }
+        match write_all(file, &self.file) {
+            Ok(()) => Status::Done,
+            Err(_) => Status::OutputFault,
+        }
+    }
+
+    /// Takes the frames of a source up to END, or to its end.
+    fn receive<S: Source>(&mut self, source: &mut S, ticket: &Ticket) -> Result<(), Failed>
+        requires { AreSpanned ticket.now self.old.spaces.items [] }
+        ensures received { OnOk result (AreReceived ticket.now (change (S.told source.old) (S.told source.new)) self.new.spaces.items) }
+        ensures failed { OnErr result (FailsBeforeStop ticket.now (change (S.told source.old) (S.told source.new))) }
+        ensures cause { HasCause (S.told source.old).faults (S.told source.new).faults result }
+        ensures answers { self.new.answers ≡ self.old.answers }
+        ensures file { self.new.file ≡ self.old.file }
+    {
+        take_frames(source, ticket, &mut self.spaces)
+    }
+
+    /// Decodes each generation, and puts the file together where each has an answer.
+    fn decode(&mut self, ticket: &Ticket) -> bool
+        requires spaces { (vectors : List (ℕ × ℕ)) × AreSpanned ticket.now self.old.spaces.items vectors }
+        requires answers { self.old.answers.items ≡ [] }
+        requires room { generations ticket.now ≤ vec_capacity self.old.answers }
+        requires file { vec_len self.old.file ≡ ticket.now.length }
+        ensures file { (vectors : List (ℕ × ℕ)) → AreSpanned ticket.now self.old.spaces.items vectors
+            → OnTrue result (file_text ticket.now vectors ≡ Some self.new.file.items) }
+        ensures none { (vectors : List (ℕ × ℕ)) → AreSpanned ticket.now self.old.spaces.items vectors
+            → OnFalse result (file_text ticket.now vectors ≡ None) }
+        ensures answers { (vectors : List (ℕ × ℕ)) → AreSpanned ticket.now self.old.spaces.items vectors
+            → self.new.answers.items ≡ answers ticket.now vectors }
+        ensures spaces { self.new.spaces ≡ self.old.spaces }
+    {
+        answer_each::<Brand>(
+            &ticket.code(),
+            &self.spaces,
+            &mut self.answers,
+            Blank::new(1),
+        );
+        join(&self.answers, ticket, &mut self.file)
+    }
+}
+
+/// The answer of each space, with one storage for all and a step counter of its own.
+fn answer_each<L: Ledger>(
+    code: &Code,
+    spaces: &[RowSpace],
+    answers: &mut Vec<Option<Message>>,
+    blank: Blank,
+)
+    requires name { blank.name ≡ L.name }
+    requires parts { blank.parts ≡ L.parts }
+    requires some { 0 < blank.parts }
+    requires wide { All (λ space. space.width ≡ width code.now) spaces.now }
+    requires empty { answers.old.items ≡ [] }
+    requires room { length spaces.now ≤ vec_capacity answers.old }
+    ensures answers { answers.new.items ≡ map (λ space. answer code.now space.rows) spaces.now }
+    ensures messages { All (λ a. IfSome a (IsMessage code.now)) answers.new.items }
+{
+    let mut scratch = Scratch::new();
+    let mut steps = Steps::<L>::new(blank);
+    for space in spaces {
+        answers.push_reserved(decode_space(code, space, &mut scratch, &mut steps));
+    }
+}
