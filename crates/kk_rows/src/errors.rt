@@ -1,4 +1,6 @@
 //! The one error of calls that ask for memory.
+ghost use Rattle.std.specs.Prelude.{Some, codes};
+
 use std::alloc::{AllocError, AllocFailed};
 use std::error::Error;
 use std::fmt;
@@ -8,8 +10,10 @@ use std::fmt;
 pub struct Alloc;
 
 impl fmt::Display for Alloc {
+    ghost output = { λ _. Some (codes "out of memory") };
+
     fn fmt<W: fmt::Write>(&self, f: &mut fmt::Formatter<W>) -> fmt::Result {
-        f.write_str("out of memory")
+        write!(f, "out of memory")
     }
 }
 
