@@ -1,4 +1,6 @@
+//! Worked tickets, codewords, distances and moduli.
 ghost use Rattle.std.specs.Prelude.{◌≡◌, ◌<◌, ◌≤◌, length};
+ghost use Rattle.kk_code.specs.Codeword.{IsMessage, codeword};
 
 use crate::{Code, CodeRows, Message, Ticket, TicketFault, check_modulus, encode};
 use kk_field::Steps;
@@ -9,23 +11,32 @@ use std::test::Fail;
 
 const ONE_BYTE: &str = "kk1:00000001:3:0000000000000003:3:1:1";
 
-// The codeword of a message of one symbol.
-fn codeword<L: Ledger>(code: &Code, symbol: u64, blank: Blank) -> Option<CodeRows>
+/// The codeword of u under the code of the ticket.
+fn sent_rows<L: Ledger>(ticket: &Ticket, u: &Message, steps: &mut Steps<L>) -> CodeRows
+    requires { IsMessage ticket.now.code u.now }
+    ensures { result ≡ codeword ticket.now.code u.now }
+{
+    encode(&ticket.code(), u, steps)
+}
+
+/// The codeword of a message of one symbol.
+fn rows_of_symbol<L: Ledger>(ticket: &Ticket, symbol: u64, blank: Blank) -> Option<CodeRows>
     requires name { blank.name ≡ L.name }
     requires parts { blank.parts ≡ L.parts }
     requires some { 0 < blank.parts }
 {
+    let code = ticket.code();
     if code.k() != 1 || symbol >> code.m() != 0 {
         return None;
     }
     let mut steps: Steps<L> = Steps::new(blank);
-    Some(encode(code, &Message::from_slice(&[symbol]), &mut steps))
+    Some(sent_rows(ticket, &Message::from_slice(&[symbol]), &mut steps))
 }
 
 #[test]
 fn the_codeword_of_five_has_rows_13_17_34(rt: HostRuntime) -> Result<(), Fail> {
-    let code = Ticket::read(ONE_BYTE)?.code();
-    let rows = codeword::<Brand>(&code, 5, Blank::new(1)).ok_or("no message")?;
+    let ticket = Ticket::read(ONE_BYTE)?;
+    let rows = rows_of_symbol::<Brand>(&ticket, 5, Blank::new(1)).ok_or("no message")?;
     assert_eq!(rt; rows.as_slice(), [Row(13), Row(17), Row(34)].as_slice());
     Ok(())
 }
