@@ -12,11 +12,8 @@ use Rattle.kk_assemble.specs.FileBits.{file_bit, number_from, symbol_of, cut, me
 use Rattle.kk_assemble.specs.Laws.{cuts}
 use Rattle.kk_assemble.specs.Messages.{all_messages}
 use Rattle.kk_assemble.proofs.AllMessages.{all_messages-range}
+use Rattle.kk_assemble.proofs.Places.{file_bit_below}
 use Rattle.kk_assemble.proofs.Numbers.{number_from_below, same_numbers, bit_at-number_from, number_from-bit_at}
-
--- a bit is 0 or 1
-file_bit_below : (file : List ℕ) (t : ℕ) → file_bit file t < 2
-file_bit_below file t = omega arith
 
 pub cut_is_message : (p : Parameters) (file : List ℕ) (g : ℕ) → IsMessage p (cut p file g)
 cut_is_message p file g = record {

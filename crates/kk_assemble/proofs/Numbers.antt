@@ -1,5 +1,5 @@
 -- Numbers by their bits, most significant first.
-use Rattle.std.proofs.Common.{◌≡◌, ℕ, zero, suc, ◌+◌, ◌-◌, ◌*◌, ◌/◌, ◌%◌, ◌^◌, ◌<◌, ◌≤◌, refl, sym, ap, ◌∙◌, inl, inr, arith, add-one}
+use Rattle.std.proofs.Common.{◌≡◌, ℕ, zero, suc, ◌+◌, ◌-◌, ◌*◌, ◌/◌, ◌%◌, ◌^◌, ◌<◌, ◌≤◌, refl, sym, ap, ◌∙◌, inl, inr, arith, add-one, mul_assoc, mul_comm}
 use Rattle.std.specs.Int.{bit_at}
 use Rattle.std.proofs.Math.Nat.{pow-suc, pow-le-pow_right}
 use Rattle.std.proofs.lemmas.Bool.{cases_lt}
@@ -10,6 +10,20 @@ use Rattle.kk_assemble.specs.FileBits.{number_from}
 pub number_from_more : (bit : ℕ → ℕ) (at n : ℕ) → number_from bit at (n + 1) ≡ 2 * number_from bit at n + bit (at + n)
 unfolding number_from
 number_from_more bit at n = rw add-one refl
+
+-- the bits of a row and of the row after it
+pub number_from-append : (bit : ℕ → ℕ) (at a b : ℕ) → number_from bit at (a + b) ≡ number_from bit at a * 2 ^ b + number_from bit (at + a) b
+unfolding number_from
+number_from-append bit at a zero =
+    let none : a + 0 ≡ a = omega arith in
+    ap (number_from bit at) none ∙ omega arith
+number_from-append bit at a (suc b) =
+    let up : a + suc b ≡ suc (a + b) = omega arith in
+    let place : at + (a + b) ≡ (at + a) + b = omega arith in
+    let last : bit (at + (a + b)) ≡ bit ((at + a) + b) = ap bit place in
+    let x = number_from bit at a in
+    let twice : x * 2 ^ suc b ≡ 2 * (x * 2 ^ b) = ap (λ (p : ℕ). x * p) (pow-suc 2 b) ∙ sym (mul_assoc x (2 ^ b) 2) ∙ mul_comm (x * 2 ^ b) 2 in
+    ap (number_from bit at) up ∙ omega (arith, number_from-append bit at a b, last, twice)
 
 -- n bits make a number below 2^n
 pub number_from_below : (bit : ℕ → ℕ) (at n : ℕ) → ((t : ℕ) → bit t < 2) → number_from bit at n < 2 ^ n

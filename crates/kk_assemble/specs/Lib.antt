@@ -1,4 +1,5 @@
 pub mod FileBits
 pub mod Messages
+pub mod Bits
 pub mod Laws
 pub mod FileExamples

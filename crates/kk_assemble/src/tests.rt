@@ -1,4 +1,4 @@
-//! Files of one byte, in messages worked out by hand.
+//! Files of one and of eleven bytes, in messages worked out apart from the program.
 ghost use Rattle.std.specs.Prelude.{◌≡◌, ◌<◌, length, All, IfSome, IfOk};
 ghost use Rattle.kk_code.specs.Codeword.{IsMessage};
 ghost use Rattle.kk_code.specs.Ticket.{generations};
@@ -30,6 +30,17 @@ fn one_byte(rt: &impl Abort) -> Result<Ticket, Fail>
     Ok(ticket)
 }
 
+/// The ticket of a file of eleven bytes: six messages of three symbols of five bits.
+fn eleven_bytes(rt: &impl Abort) -> Result<Ticket, Fail>
+    ensures { IfOk result (λ t. (t.length ≡ 11) × (generations t ≡ 6)) }
+{
+    let ticket = Ticket::read("kk1:00000001:5:0000000000000005:3:3:11")?;
+    assert_eq!(rt; ticket.length(), 11);
+    assert_eq!(rt; ticket.generations(), 6);
+    Ok(ticket)
+}
+
+/// A message of one symbol.
 fn message(symbol: u64, ticket: &Ticket) -> Message
     requires below { symbol < 8 }
     requires one { ticket.now.code.k ≡ 1 }
@@ -113,5 +124,49 @@ fn one_message_is_its_file(rt: HostRuntime) -> Result<(), Fail> {
     let mut file = [0];
     assert!(rt; through(&[0x51], &ticket, &mut file));
     assert_eq!(rt; file, [0x51]);
+    Ok(())
+}
+
+/// Eight bytes that are written at once, and three more.
+const ELEVEN_BYTES: [u8; 11] = [
+    0x6B, 0x6B, 0x01, 0xFF, 0x00, 0x80, 0x7E, 0x3C, 0xC5, 0x12, 0xD9,
+];
+
+#[test]
+fn eleven_bytes_in_six_messages(rt: HostRuntime) -> Result<(), Fail> {
+    let ticket = eleven_bytes(&rt)?;
+    let messages = [
+        (0, [13, 13, 21]),
+        (1, [16, 3, 31]),
+        (2, [24, 0, 16]),
+        (3, [1, 31, 3]),
+        (4, [25, 17, 8]),
+        (5, [18, 27, 4]),
+    ];
+    for (generation, symbols) in messages {
+        let message = cut(&ELEVEN_BYTES, &ticket, generation);
+        assert_eq!(rt;
+            message.symbols(),
+            symbols.as_slice(),
+            "generation {generation}"
+        );
+    }
+    Ok(())
+}
+
+#[test]
+fn six_messages_in_eleven_bytes(rt: HostRuntime) -> Result<(), Fail> {
+    let ticket = eleven_bytes(&rt)?;
+    let answers = [
+        Some(cut(&ELEVEN_BYTES, &ticket, 0)),
+        Some(cut(&ELEVEN_BYTES, &ticket, 1)),
+        Some(cut(&ELEVEN_BYTES, &ticket, 2)),
+        Some(cut(&ELEVEN_BYTES, &ticket, 3)),
+        Some(cut(&ELEVEN_BYTES, &ticket, 4)),
+        Some(cut(&ELEVEN_BYTES, &ticket, 5)),
+    ];
+    let mut file = [0; 11];
+    assert!(rt; join(&answers, &ticket, &mut file));
+    assert_eq!(rt; file, ELEVEN_BYTES);
     Ok(())
 }

@@ -10,7 +10,7 @@ returns c =
     let p = c.args.ticket.now.code in
     let file = c.args.file.now in
     let g = c.args.generation in
-    let symbols_are : c.loop-j.symbols ≡ cut p file g =
-    fill_by_all (symbol_of p file g) c.loop-j.symbols p.k 0 c.loop-j.invariant.len (λ i below. c.loop-j.invariant.so_far i (omega (arith, c.loop-j.invariant.len))) in
+    let symbols_are : c.loop-symbol.symbols ≡ cut p file g =
+    fill_by_all (symbol_of p file g) c.loop-symbol.symbols p.k 0 c.loop-symbol.invariant.len (λ i below. c.loop-symbol.invariant.so_far i (omega (arith, c.loop-symbol.invariant.len))) in
     let exact : c.from_slice.result ≡ cut p file g = c.from_slice.ensures ∙ symbols_are in
     record { exact = exact; message = subst (IsMessage p) (sym exact) (cut_is_message p file g) }
