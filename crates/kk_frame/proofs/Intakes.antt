@@ -20,9 +20,9 @@ use Rattle.kk_frame.specs.Datagram.{has_datagram_length, has_end, readings, data
 use Rattle.kk_frame.specs.Events.{datagrams, all_readings, counts_over, last_quiets, end_with, stop, taken, counts_so_far, counts}
 use Rattle.kk_frame.specs.Counting.{sum_of, IsAtMost, HasReadings}
 use Rattle.kk_frame.specs.Intake.{IntakeState, IsIntake, IsAfter, is_running}
-use Rattle.kk_frame.specs.Laws.{EndedIntakeTellsAll}
+use Rattle.kk_frame.specs.Laws.{RunningIntakeGoesOn, EndedIntakeTellsAll}
 use Rattle.kk_frame.proofs.Readings.{data_frames-append, IsAtMost-sum}
-use Rattle.kk_frame.proofs.Stops.{shortest_prefix-push, shortest_prefix-end, shortest_prefix-nil, datagrams-append, end_with-nil, end_with-quiet, end_with-datagram, end_with-fault, counts_over-other, counts_over-datagram, with_datagram, gate_count, same_counts, last_quiets-quiet, last_quiets-datagram}
+use Rattle.kk_frame.proofs.Stops.{shortest_prefix-on, shortest_prefix-first, shortest_prefix-push, shortest_prefix-end, shortest_prefix-nil, datagrams-append, end_with-nil, end_with-quiet, end_with-datagram, end_with-fault, counts_over-other, counts_over-datagram, with_datagram, gate_count, same_counts, last_quiets-quiet, last_quiets-datagram}
 
 abbrev test : TicketFields → Limits → List Event → Bool
 test t limits prefix = is_some (end_with FRAME_BYTES t limits prefix)
@@ -179,10 +179,20 @@ taken-push t es e s h running =
     ap (λ prefix. data_frames (all_readings FRAME_BYTES t prefix)) (run.next e) ∙ all_readings-push t es e
     ∙ sym (ap (λ prefix. data_frames (all_readings FRAME_BYTES t prefix) ++ frames_in t e) h.all)
 
+pub running_goes_on : RunningIntakeGoesOn
+running_goes_on t es next more s h running =
+    let run = running_after t es s h running in
+    let none : test t s.limits es ≡ false = ap is_some run.none in
+    let on = shortest_prefix-first (λ prefix. test t s.limits (es ++ prefix)) next more (ap (test t s.limits) (append-nil es) ∙ none) in (
+      _,
+      shortest_prefix-on (test t s.limits) es (next ∷ more) h.all none ∙ ap (λ l. es ++ l) on,
+    )
+
 pub ended_tells_all : EndedIntakeTellsAll
 ended_tells_all t es more s end h is =
     let whole : stop FRAME_BYTES t s.limits (es ++ more) ≡ es = shortest_prefix-end (test t s.limits) es more h.all (ap is_some why_ended) in
     let all : List Event → Option Ended = λ prefix. Some (unwrap_or (end_with FRAME_BYTES t s.limits prefix) ended.Over) in (
+      whole,
       are ∙ ap (λ o. counts_over FRAME_BYTES t o es) (why_ended ∙ sym (ap (λ o. Some (unwrap_or o ended.Over)) why_ended))
           ∙ sym (ap (λ prefix. counts_over FRAME_BYTES t (all prefix) prefix) whole),
       ap (λ prefix. data_frames (all_readings FRAME_BYTES t prefix)) (h.all ∙ sym whole),
@@ -202,4 +212,12 @@ some_end (Some end) h = (end, refl)
 pub ended_tells : (t : TicketFields) (es : List Event) (s : IntakeState) → IsAfter t es s → is_running s ≡ false → s.counts ≡ counts FRAME_BYTES t s.limits es
 ended_tells t es s h over =
     let end = some_end s.counts.ended over in
-    (ended_tells_all t es [] s end.0 h end.1).0 ∙ ap (counts FRAME_BYTES t s.limits) (append-nil es)
+    (ended_tells_all t es [] s end.0 h end.1).1 ∙ ap (counts FRAME_BYTES t s.limits) (append-nil es)
+
+-- and the gate stops there
+pub ended_stops : (t : TicketFields) (es more : List Event) (s : IntakeState) → IsAfter t es s → is_running s ≡ false → stop FRAME_BYTES t s.limits (es ++ more) ≡ es
+ended_stops t es more s h over = let end = some_end s.counts.ended over in (ended_tells_all t es more s end.0 h end.1).0
+
+pub taken-none : (size : ℕ) (t : TicketFields) (limits : Limits) → taken size t limits [] ≡ []
+unfolding data_frames
+taken-none size t limits = ap (λ prefix. data_frames (all_readings size t prefix)) (shortest_prefix-nil (λ prefix. is_some (end_with size t limits prefix)))

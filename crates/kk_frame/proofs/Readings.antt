@@ -262,6 +262,10 @@ HasReadings-end rs r r' h none batch refused end = record {
 }
 
 -- what is received of a datagram, by its length
+pub data_frames-bad : (size : ℕ) (t : TicketFields) (bytes : List ℕ) → has_datagram_length size bytes ≡ false → data_frames (readings size t bytes) ≡ []
+unfolding data_frames
+data_frames-bad size t bytes bad = ap data_frames (readings-bad size t bytes bad)
+
 pub HasReadings-bad : (size : ℕ) (t : TicketFields) (bytes : List ℕ) (r : Received) → has_datagram_length size bytes ≡ false → HasReadings 1 [] r → HasReadings (cond (has_datagram_length size bytes) 0 1) (readings size t bytes) r
 HasReadings-bad size t bytes r bad h = let nothing = readings-bad size t bytes bad in rw (nothing, bad) h
 

@@ -53,14 +53,15 @@ pub shortest_prefix-nil : (test : List Event → Bool) → shortest_prefix test 
 unfolding shortest_prefix
 shortest_prefix-nil test = refl
 
-shortest_prefix-one : (test : List Event → Bool) (e : Event) → test [] ≡ false → shortest_prefix test (e ∷ []) ≡ e ∷ []
+-- where no event doesn't pass, the first one is of the prefix
+pub shortest_prefix-first : (test : List Event → Bool) (e : Event) (es : List Event) → test [] ≡ false → shortest_prefix test (e ∷ es) ≡ e ∷ shortest_prefix (λ prefix. test (e ∷ prefix)) es
 unfolding shortest_prefix
-shortest_prefix-one test e none = rw none refl
+shortest_prefix-first test e es none = rw none refl
 
 pub shortest_prefix-push : (test : List Event → Bool) (xs : List Event) (e : Event) → shortest_prefix test xs ≡ xs → test xs ≡ false → shortest_prefix test (xs ++ e ∷ []) ≡ xs ++ e ∷ []
 shortest_prefix-push test xs e whole none =
     shortest_prefix-on test xs (e ∷ []) whole none
-    ∙ ap (λ more. xs ++ more) (shortest_prefix-one (λ prefix. test (xs ++ prefix)) e (ap test (append-nil xs) ∙ none))
+    ∙ ap (λ more. xs ++ more) (shortest_prefix-first (λ prefix. test (xs ++ prefix)) e [] (ap test (append-nil xs) ∙ none) ∙ ap (λ more. e ∷ more) (shortest_prefix-nil (λ prefix. test (xs ++ e ∷ prefix))))
 
 IsShortestPrefix-cons : (test : List Event → Bool) (e : Event) (es prefix : List Event) (b : Bool) → test [] ≡ b → IsShortestPrefix (λ p. test (e ∷ p)) es prefix → IsShortestPrefix test (e ∷ es) (cond b [] (e ∷ prefix))
 IsShortestPrefix-cons test e es prefix true here h = record {

@@ -1,5 +1,5 @@
 -- Worked events under the ticket of one byte, whose rows have six bits, with at most 3 datagrams and 2 quiets in a row.
-use Rattle.std.specs.Prelude.{◌≡◌, refl, ℕ, Option, Some, [], ◌∷◌, ◌++◌, replicate}
+use Rattle.std.specs.Prelude.{◌≡◌, refl, ℕ, Option, Some, [], ◌∷◌, ◌++◌, take, replicate}
 use Rattle.kk_code.specs.Ticket.{one_byte}
 use Rattle.kk_outside.specs.declared.event.Event.{Event}
 use Rattle.kk_outside.specs.declared.event.Event.TheVariants.{Datagram, Quiet, Fault}
@@ -8,7 +8,8 @@ use Rattle.kk_frame.specs.declared.gate_count.Ended.{Ended}
 use Rattle.kk_frame.specs.declared.gate_count.Ended.TheVariants as ended
 use Rattle.kk_frame.specs.declared.gate_count.GateCount.{GateCount}
 use Rattle.kk_frame.specs.Frame.{frame_read, frame_fault}
-use Rattle.kk_frame.specs.FrameExamples.{data_frame, end_frame}
+use Rattle.kk_frame.specs.FrameExamples.{data_frame, end_frame, capture}
+use Rattle.kk_frame.specs.Capture.{capture_events}
 use Rattle.kk_frame.specs.Datagram.{up_to_end, readings, data_frames}
 use Rattle.kk_frame.specs.Events.{end_with, shortest_prefix, taken, counts}
 
@@ -60,3 +61,33 @@ taken_before_the_end = refl
 pub fault_ends : told (counts 20 one_byte limits (v ∷ Fault ∷ v ∷ [])) ≡ (Some ended.Fault, 1, 1, 0)
 unfolding end_with shortest_prefix readings up_to_end data_frames frame_read frame_fault
 fault_ends = refl
+
+-- ---- the capture of the one byte A0
+
+abbrev pub at_most : ℕ → Limits
+at_most most = record { idle = 1; most = most }
+
+pub frames_of_the_capture :
+    taken 20 one_byte (at_most 10) (capture_events 20 capture) ≡ (0, 13) ∷ (0, 17) ∷ (0, 34) ∷ (1, 8) ∷ (1, 16) ∷ (1, 32) ∷ (2, 8) ∷ (2, 16) ∷ (2, 32) ∷ []
+unfolding end_with shortest_prefix readings up_to_end data_frames frame_read frame_fault
+frames_of_the_capture = refl
+
+-- END is piece number 10
+pub end_is_the_last_of_ten : told (counts 20 one_byte (at_most 10) (capture_events 20 capture)) ≡ (Some ended.End, 10, 9, 0)
+unfolding end_with shortest_prefix readings up_to_end data_frames frame_read frame_fault
+end_is_the_last_of_ten = refl
+
+-- with at most four datagrams, the gate takes four
+pub four_at_most : taken 20 one_byte (at_most 4) (capture_events 20 capture) ≡ (0, 13) ∷ (0, 17) ∷ (0, 34) ∷ (1, 8) ∷ []
+unfolding end_with shortest_prefix readings up_to_end data_frames frame_read frame_fault
+four_at_most = refl
+
+-- two frames and a half: what remains is a datagram of a wrong length
+pub two_frames_and_a_half : told (counts 20 one_byte (at_most 10) (capture_events 20 (take 50 capture))) ≡ (Some ended.Over, 3, 2, 1)
+unfolding end_with shortest_prefix readings up_to_end data_frames frame_read frame_fault
+two_frames_and_a_half = refl
+
+-- which can be the last that is allowed
+pub a_half_makes_most : told (counts 20 one_byte (at_most 3) (capture_events 20 (take 50 capture))) ≡ (Some ended.Most, 3, 2, 1)
+unfolding end_with shortest_prefix readings up_to_end data_frames frame_read frame_fault
+a_half_makes_most = refl

@@ -3,7 +3,6 @@ use Rattle.std.specs.Prelude.{◌≡◌, refl, Ok, Err, [], ◌∷◌, ◌++◌,
 use Rattle.kk_code.specs.Ticket.{one_byte}
 use Rattle.kk_frame.specs.declared.fault.FrameFault.TheVariants.{Generation, Row}
 use Rattle.kk_frame.specs.Frame.{Vector, End, frame_text, frame_fault, frame_read}
-use Rattle.kk_frame.specs.Gate.{pieces, pieces_within, frames_read, ends_with_end, shortest_front, vectors_read, taken}
 
 -- a frame of generation 0 with this last byte
 abbrev pub data_frame : ℕ → ℕ → List ℕ
@@ -37,13 +36,3 @@ row_too_large = refl
 pub no_such_generation : frame_read one_byte (data_frame 3 0) ≡ Err Generation
 unfolding frame_read frame_fault
 no_such_generation = refl
-
-pub frames_of_the_capture :
-    taken one_byte 10 (pieces capture) ≡ (0, 13) ∷ (0, 17) ∷ (0, 34) ∷ (1, 8) ∷ (1, 16) ∷ (1, 32) ∷ (2, 8) ∷ (2, 16) ∷ (2, 32) ∷ []
-unfolding pieces_within frames_read ends_with_end shortest_front vectors_read frame_read frame_fault
-frames_of_the_capture = refl
-
--- with at most four datagrams, the gate takes four
-pub four_at_most : taken one_byte 4 (pieces capture) ≡ (0, 13) ∷ (0, 17) ∷ (0, 34) ∷ (1, 8) ∷ []
-unfolding pieces_within frames_read ends_with_end shortest_front vectors_read frame_read frame_fault
-four_at_most = refl

@@ -9,7 +9,7 @@ use Rattle.kk_frame.specs.declared.limits.Limits.{Limits}
 use Rattle.kk_frame.specs.declared.gate_count.Ended.{Ended}
 use Rattle.kk_frame.specs.Frame.{FrameValue, IsFrame, frame_text, frame_read}
 use Rattle.kk_frame.specs.Events.{end_with, stop, taken, counts}
-use Rattle.kk_frame.specs.Intake.{IntakeState, IsAfter}
+use Rattle.kk_frame.specs.Intake.{IntakeState, IsAfter, is_running}
 use Rattle.kk_frame.specs.Capture.{capture_events}
 
 -- the bytes of a piece
@@ -42,12 +42,19 @@ StopIsShortestPrefix =
     (size : ℕ) (t : TicketFields) (limits : Limits) (events : List Event) →
     IsShortestPrefix (λ prefix. is_some (end_with size t limits prefix)) events (stop size t limits events)
 
--- An intake that has ended by an event tells the counts of the gate, whatever the gate has after that event, and what was
--- taken is all that is taken.
+-- While an intake runs the gate doesn't stop: it goes on to the next event, whatever the gate has after that one.
+abbrev pub RunningIntakeGoesOn : Type 0
+RunningIntakeGoesOn =
+    (t : TicketFields) (events : List Event) (next : Event) (more : List Event) (s : IntakeState) → IsAfter t events s → is_running s ≡ true →
+    (after : List Event) × (stop FRAME_BYTES t s.limits (events ++ next ∷ more) ≡ events ++ next ∷ after)
+
+-- Where an intake has ended by an event, the gate stops there, whatever it has after that event: the counts of the intake
+-- are those of the gate, and what was taken is all that is taken.
 abbrev pub EndedIntakeTellsAll : Type 0
 EndedIntakeTellsAll =
     (t : TicketFields) (events more : List Event) (s : IntakeState) (end : Ended) → IsAfter t events s → s.counts.ended ≡ Some end →
-    (s.counts ≡ counts FRAME_BYTES t s.limits (events ++ more))
+    (stop FRAME_BYTES t s.limits (events ++ more) ≡ events)
+    × (s.counts ≡ counts FRAME_BYTES t s.limits (events ++ more))
     × (taken FRAME_BYTES t s.limits events ≡ taken FRAME_BYTES t s.limits (events ++ more))
 
 -- A capture gives one event for each piece, and one for the bytes that remain.

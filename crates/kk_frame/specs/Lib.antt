@@ -6,6 +6,5 @@ pub mod Counting
 pub mod Intake
 pub mod Capture
 pub mod Laws
-pub mod Gate
 pub mod FrameExamples
 pub mod EventExamples

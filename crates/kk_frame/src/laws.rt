@@ -1,5 +1,5 @@
 //! Laws of frames and events. Each function here does nothing: its contract is the law.
-ghost use Rattle.kk_frame.specs.Laws.{FrameIsItsText, FramesHaveTheirOwnTexts, StopIsShortestPrefix, EndedIntakeTellsAll, CaptureIsCutIntoPieces};
+ghost use Rattle.kk_frame.specs.Laws.{FrameIsItsText, FramesHaveTheirOwnTexts, StopIsShortestPrefix, RunningIntakeGoesOn, EndedIntakeTellsAll, CaptureIsCutIntoPieces};
 
 /// A frame is read of a piece exactly where the piece is the text of that frame, which the ticket has.
 pub fn frame_is_its_text()
@@ -16,7 +16,13 @@ pub fn stop_is_the_shortest_prefix()
     ensures { StopIsShortestPrefix }
 {}
 
-/// What comes after the event with which an intake ended changes neither the counts of the gate nor what is taken.
+/// While an intake runs, the gate goes on to the next event.
+pub fn running_intake_goes_on()
+    ensures { RunningIntakeGoesOn }
+{}
+
+/// Where an intake has ended by an event, the gate stops there: what comes after it changes neither the counts of the gate
+/// nor what is taken.
 pub fn ended_intake_tells_all()
     ensures { EndedIntakeTellsAll }
 {}

@@ -1,272 +1,221 @@
--- A source piece by piece: what was taken of it so far, and what there is still to take.
-use Rattle.std.proofs.Common.{◌≡◌, ℕ, zero, suc, ◌+◌, ◌<◌, ◌≤◌, List, [], ◌∷◌, ◌++◌, length, get_or, take, drop, Option, Some, None, Ok, Err, IfSome, refl, ap, sym, ◌∙◌, arith, append_assoc, length-append, length-take, subst, inl, inr}
-use Rattle.std.proofs.lemmas.List.{append-nil, take_at, drop_at, take_all, drop_all}
+-- A source piece by piece: what was taken of it so far, and where the gate of its pieces stops.
+use Rattle.std.proofs.Common.{◌≡◌, ℕ, ◌+◌, ◌*◌, ◌<◌, true, false, List, [], ◌∷◌, ◌++◌, length, take, drop, Option, Some, None, Ok, Err, refl, ap, sym, ◌∙◌, arith, append_assoc, length-append, length-take, subst, lit<}
+use Rattle.std.specs.Prelude.{sum_by, IfSome}
+use Rattle.std.proofs.lemmas.List.{append-nil, take_at, drop_at}
+use Rattle.std.proofs.lemmas.List.Sums.{sum_by-append, sum_by-cons}
 use Rattle.std.proofs.lemmas.Option.{same_Some}
 use Rattle.std.specs.Io.KnownBytes.{prepend_known, IsAtEnd}
-use Rattle.std.specs.Prelude.{sum_by}
-use Rattle.std.proofs.Math.ListN.{set}
 use Rattle.kk_rows.specs.Space.{Space}
-use Rattle.kk_rows.specs.Span.{in_span}
 use Rattle.kk_outside.specs.Change.{Change, change}
-use Rattle.kk_outside.specs.Source.{SourceTold, Read, AtEnd, Failed, Took, bytes_read, FillsFrom}
-use Rattle.kk_outside.proofs.Known.{Took-nothing, Took-append, bytes_read-took, filled, filled_short, ended_by_fill}
-use Rattle.kk_code.specs.Ticket.{TicketFields, generations}
-use Rattle.kk_frame.specs.declared.fault.FrameFault.{FrameFault}
-use Rattle.kk_frame.specs.Frame.{Vector, End, frame_read}
-use Rattle.kk_frame.specs.Gate.{pieces, vectors_read}
-use Rattle.kk_top.specs.declared.receive.TheConstants.{MAX_PIECES}
-use Rattle.kk_top.specs.Spaces.{AreSpanned, AreReceived, no_space}
-use Rattle.kk_top.specs.commands.Unpack.{vectors_of, read_length, EndsAtStop, IsBeforeStop, ReadsUpToStop, FailsBeforeStop, LeavesRemainder, LeavesMore}
-use Rattle.kk_top.proofs.Spanned.{AreSpanned-push}
-use Rattle.kk_top.proofs.Stopping.{stop-up_to}
-use Rattle.kk_top.proofs.Pieces.{taken_within, length_within, taken_within-zero, length_within-zero, taken_within-short, length_within-short, length_within-some, taken_within-vector, length_within-vector, taken_within-fault, length_within-fault, taken_within-end, length_within-end}
+use Rattle.kk_outside.specs.Source.{SourceTold, AtEnd, Failed, Took, bytes_read, FillsFrom}
+use Rattle.kk_outside.specs.declared.event.Event.{Event}
+use Rattle.kk_outside.specs.declared.event.Event.TheVariants.{Datagram}
+use Rattle.kk_outside.proofs.Known.{Took-nothing, Took-append, bytes_read-took, filled_short, ended_by_fill}
+use Rattle.kk_code.specs.Ticket.{TicketFields}
+use Rattle.kk_frame.specs.declared.frame.TheConstants.{FRAME_BYTES}
+use Rattle.kk_frame.specs.declared.gate_count.GateCount.{GateCount}
+use Rattle.kk_frame.specs.Capture.{capture_events}
+use Rattle.kk_frame.specs.Events.{datagrams, stop, taken, counts}
+use Rattle.kk_frame.specs.Intake.{IntakeState, IsAfter, is_running}
+use Rattle.kk_frame.proofs.Captures.{capture-append, capture-first, capture-one, capture-length, data_frames-short}
+use Rattle.kk_frame.proofs.Stops.{datagrams-append}
+use Rattle.kk_frame.proofs.Intakes.{running_after, running_goes_on, ended_stops, taken-none, taken-push}
+use Rattle.kk_top.specs.Spaces.{AreSpanned, HasTaken, AreReceived}
+use Rattle.kk_top.specs.commands.Unpack.{piece_limits, pieces, pieces_read, vectors_of, counts_of, read_length, EndsAtStop, IsBeforeStop, FailsBeforeStop, LeavesRemainder}
 
--- Of these bytes the data frames so far were taken, and n more pieces may come: whatever they are, these go on from there.
-pub record Follows (t : TicketFields) (n : ℕ) (bytes : List ℕ) (vectors : List (ℕ × ℕ)) : Type 0 where
-  pub taken : (more : List ℕ) → vectors ++ taken_within t n more ≡ taken_within t MAX_PIECES (bytes ++ more)
-  pub long : (more : List ℕ) → length bytes + length_within t n more ≡ length_within t MAX_PIECES (bytes ++ more)
+-- ---- how many bytes are read
 
-Follows-start : (t : TicketFields) → Follows t MAX_PIECES [] []
-Follows-start t = record { taken = λ more. refl; long = λ more. omega arith }
+read_length-of : (t : TicketFields) (most : ℕ) (bytes : List ℕ) (events : List Event) → pieces_read t most bytes ≡ events → read_length t most bytes ≡ sum_by length (datagrams events)
+unfolding read_length
+read_length-of t most bytes events is = ap (λ es. sum_by length (datagrams es)) is
 
--- a whole piece before other bytes
-front_of : (piece more : List ℕ) → length piece ≡ 20 → take 20 (piece ++ more) ≡ piece
-front_of piece more whole = take_at piece more 20 whole
+-- all of some bytes, and nothing of what comes after them
+read_length-all : (t : TicketFields) (most : ℕ) (bytes front : List ℕ) → pieces_read t most bytes ≡ pieces front → read_length t most bytes ≡ length front
+read_length-all t most bytes front is = read_length-of t most bytes (pieces front) is ∙ capture-length FRAME_BYTES front (lit< tt)
 
-after_of : (piece more : List ℕ) → length piece ≡ 20 → drop 20 (piece ++ more) ≡ more
-after_of piece more whole = drop_at piece more 20 whole
+-- ---- what was taken so far
 
-enough : (piece more : List ℕ) → length piece ≡ 20 → 20 ≤ length (piece ++ more)
-enough piece more whole = omega (arith, length-append piece more)
+-- Whole pieces were taken of the source, and the intake was given them.
+pub record Received (t : TicketFields) (most : ℕ) (source : Change SourceTold) (intake : IntakeState) (spaces : List Space) : Type 0 where
+  pub bytes : List ℕ
+  pub took : Took bytes [] source
+  pub count : ℕ
+  pub whole : length bytes ≡ count * FRAME_BYTES
+  pub limits : intake.limits ≡ piece_limits most
+  pub taken : HasTaken t (pieces bytes) intake spaces
 
--- a data frame
-Follows-vector : (t : TicketFields) (n : ℕ) (bytes : List ℕ) (vectors : List (ℕ × ℕ)) (piece : List ℕ) (generation row : ℕ) → Follows t (suc n) bytes vectors → length piece ≡ 20 → frame_read t piece ≡ Ok (Vector generation row) → Follows t n (bytes ++ piece) (vectors ++ (generation, row) ∷ [])
-Follows-vector t n bytes vectors piece generation row follows whole read =
-    let here = λ (more : List ℕ). ap (frame_read t) (front_of piece more whole) ∙ read in
-    record {
-      taken = λ more.
-          append_assoc vectors ((generation, row) ∷ []) (taken_within t n more)
-          ∙ ap (λ (l : List (ℕ × ℕ)). vectors ++ l) (sym (taken_within-vector t n (piece ++ more) generation row (enough piece more whole) (here more) ∙ ap (λ (l : List ℕ). (generation, row) ∷ taken_within t n l) (after_of piece more whole)))
-          ∙ follows.taken (piece ++ more)
-          ∙ sym (ap (taken_within t MAX_PIECES) (append_assoc bytes piece more));
-      long = λ more.
-          let step = length_within-vector t n (piece ++ more) generation row (enough piece more whole) (here more) ∙ ap (λ (l : List ℕ). 20 + length_within t n l) (after_of piece more whole) in
-          omega (arith, step, length-append bytes piece, follows.long (piece ++ more))
-          ∙ sym (ap (length_within t MAX_PIECES) (append_assoc bytes piece more));
-    }
-
--- a piece that is no frame
-Follows-fault : (t : TicketFields) (n : ℕ) (bytes : List ℕ) (vectors : List (ℕ × ℕ)) (piece : List ℕ) (fault : FrameFault) → Follows t (suc n) bytes vectors → length piece ≡ 20 → frame_read t piece ≡ Err fault → Follows t n (bytes ++ piece) vectors
-Follows-fault t n bytes vectors piece fault follows whole read =
-    let here = λ (more : List ℕ). ap (frame_read t) (front_of piece more whole) ∙ read in
-    record {
-      taken = λ more.
-          ap (λ (l : List (ℕ × ℕ)). vectors ++ l) (sym (taken_within-fault t n (piece ++ more) fault (enough piece more whole) (here more) ∙ ap (taken_within t n) (after_of piece more whole)))
-          ∙ follows.taken (piece ++ more)
-          ∙ sym (ap (taken_within t MAX_PIECES) (append_assoc bytes piece more));
-      long = λ more.
-          let step = length_within-fault t n (piece ++ more) fault (enough piece more whole) (here more) ∙ ap (λ (l : List ℕ). 20 + length_within t n l) (after_of piece more whole) in
-          omega (arith, step, length-append bytes piece, follows.long (piece ++ more))
-          ∙ sym (ap (length_within t MAX_PIECES) (append_assoc bytes piece more));
-    }
-
-taken-is : (t : TicketFields) (bytes : List ℕ) → taken_within t MAX_PIECES bytes ≡ vectors_of t bytes
-unfolding taken_within
-taken-is t bytes = sym (ap (vectors_read t) (stop-up_to t 9999999 (pieces bytes)))
-
-length-is : (t : TicketFields) (bytes : List ℕ) → length_within t MAX_PIECES bytes ≡ read_length t bytes
-unfolding length_within read_length
-length-is t bytes = sym (ap (sum_by length) (stop-up_to t 9999999 (pieces bytes)))
-
--- ---- what these bytes come to, once no more are read
-
--- The stop is at their end, and these are the data frames.
-record IsDone (t : TicketFields) (bytes : List ℕ) (vectors : List (ℕ × ℕ)) : Type 0 where
-  pub taken : (more : List ℕ) → vectors_of t (bytes ++ more) ≡ vectors
-  pub long : EndsAtStop t bytes
-
--- The stop isn't reached, and these are the data frames.
-record IsOpen (t : TicketFields) (bytes : List ℕ) (vectors : List (ℕ × ℕ)) : Type 0 where
-  pub taken : vectors_of t bytes ≡ vectors
-  pub long : read_length t bytes ≡ length bytes
-  pub before : IsBeforeStop t bytes
-
--- END
-IsDone-end : (t : TicketFields) (n : ℕ) (bytes : List ℕ) (vectors : List (ℕ × ℕ)) (piece : List ℕ) → Follows t (suc n) bytes vectors → length piece ≡ 20 → frame_read t piece ≡ Ok End → IsDone t (bytes ++ piece) vectors
-IsDone-end t n bytes vectors piece follows whole read =
-    let here = λ (more : List ℕ). ap (frame_read t) (front_of piece more whole) ∙ read in
-    record {
-      taken = λ more.
-          sym (taken-is t ((bytes ++ piece) ++ more))
-          ∙ ap (taken_within t MAX_PIECES) (append_assoc bytes piece more)
-          ∙ sym (follows.taken (piece ++ more))
-          ∙ ap (λ (l : List (ℕ × ℕ)). vectors ++ l) (taken_within-end t n (piece ++ more) (enough piece more whole) (here more))
-          ∙ append-nil vectors;
-      long = λ more.
-          sym (length-is t ((bytes ++ piece) ++ more))
-          ∙ ap (length_within t MAX_PIECES) (append_assoc bytes piece more)
-          ∙ omega (arith, follows.long (piece ++ more), length_within-end t n (piece ++ more) (enough piece more whole) (here more), length-append bytes piece);
-    }
-
--- as many pieces as are taken
-IsDone-most : (t : TicketFields) (bytes : List ℕ) (vectors : List (ℕ × ℕ)) → Follows t 0 bytes vectors → IsDone t bytes vectors
-IsDone-most t bytes vectors follows = record {
-  taken = λ more. sym (taken-is t (bytes ++ more)) ∙ sym (follows.taken more) ∙ ap (λ (l : List (ℕ × ℕ)). vectors ++ l) (taken_within-zero t more) ∙ append-nil vectors;
-  long = λ more. sym (length-is t (bytes ++ more)) ∙ omega (arith, follows.long more, length_within-zero t more);
+-- before the first piece
+pub Received-start : (t : TicketFields) (most : ℕ) (now : SourceTold) (intake : IntakeState) (spaces : List Space) → ((u : TicketFields) → IsAfter u [] intake) → intake.limits ≡ piece_limits most → AreSpanned t spaces [] → Received t most (change now now) intake spaces
+Received-start t most now intake spaces after limits spanned = record {
+  bytes = [];
+  took = Took-nothing now;
+  count = 0;
+  whole = refl;
+  limits = limits;
+  taken = record {
+    after = after t;
+    spanned = subst (AreSpanned t spaces) (sym (taken-none FRAME_BYTES t intake.limits)) spanned;
+  };
 }
 
--- less than a piece
-before_stop : (t : TicketFields) (n : ℕ) (bytes : List ℕ) (vectors : List (ℕ × ℕ)) (part : List ℕ) → Follows t (suc n) bytes vectors → length part < 20 → IsBeforeStop t (bytes ++ part)
-before_stop t n bytes vectors part follows short = λ more some.
-    let next = part ++ more in
-    let many = length-append part more in
-    let room : 0 < length next = omega (arith, many, some) in
-    let whole : length_within t MAX_PIECES (bytes ++ next) ≡ read_length t ((bytes ++ part) ++ more) = ap (length_within t MAX_PIECES) (sym (append_assoc bytes part more)) ∙ length-is t ((bytes ++ part) ++ more) in
-    omega (arith, whole, follows.long next, length_within-some t n next room, many, some, short, length-append bytes part)
+-- k whole pieces, and others
+pieces-append : (count : ℕ) (bytes more : List ℕ) → length bytes ≡ count * FRAME_BYTES → pieces (bytes ++ more) ≡ pieces bytes ++ pieces more
+pieces-append count bytes more whole = capture-append FRAME_BYTES count bytes more (lit< tt) whole
 
-IsOpen-short : (t : TicketFields) (n : ℕ) (bytes : List ℕ) (vectors : List (ℕ × ℕ)) (part : List ℕ) → Follows t (suc n) bytes vectors → length part < 20 → IsOpen t (bytes ++ part) vectors
-IsOpen-short t n bytes vectors part follows short = record {
-  taken = sym (taken-is t (bytes ++ part)) ∙ sym (follows.taken part) ∙ ap (λ (l : List (ℕ × ℕ)). vectors ++ l) (taken_within-short t n part short) ∙ append-nil vectors;
-  long = sym (length-is t (bytes ++ part)) ∙ omega (arith, follows.long part, length_within-short t n part short, length-append bytes part);
-  before = before_stop t n bytes vectors part follows short;
-}
+-- after one piece more
+pub Received-piece : (t : TicketFields) (most : ℕ) (start now end : SourceTold) (intake next : IntakeState) (spaces grown : List Space) (piece : List ℕ) → Received t most (change start now) intake spaces → Took piece [] (change now end) → length piece ≡ FRAME_BYTES → next.limits ≡ intake.limits → ((events : List Event) → HasTaken t events intake spaces → HasTaken t (events ++ Datagram piece ∷ []) next grown) → Received t most (change start end) next grown
+Received-piece t most start now end intake next spaces grown piece received took whole limits step =
+    let one : pieces piece ≡ Datagram piece ∷ [] = capture-one FRAME_BYTES piece (omega (arith, whole)) (omega (arith, whole)) in
+    let more : pieces (received.bytes ++ piece) ≡ pieces received.bytes ++ Datagram piece ∷ [] = pieces-append received.count received.bytes piece received.whole ∙ ap (λ l. pieces received.bytes ++ l) one in
+    record {
+      bytes = received.bytes ++ piece;
+      took = Took-append received.bytes piece [] start now end received.took took;
+      count = received.count + 1;
+      whole = omega (arith, length-append received.bytes piece, received.whole, whole);
+      limits = limits ∙ received.limits;
+      taken = subst (λ events. HasTaken t events next grown) (sym more) (step (pieces received.bytes) received.taken);
+    }
+
+-- ---- where the gate stops
+
+-- what was taken of a source, by its intake
+module _ (t : TicketFields) (most : ℕ) (intake : IntakeState) (bytes : List ℕ) (count : ℕ) (whole : length bytes ≡ count * FRAME_BYTES) (limits : intake.limits ≡ piece_limits most) (after : IsAfter t (pieces bytes) intake) where
+  -- an intake that has ended stops there
+  stops : is_running intake ≡ false → (more : List ℕ) → pieces_read t most (bytes ++ more) ≡ pieces bytes
+  stops over more =
+      ap (λ l. stop FRAME_BYTES t l (pieces (bytes ++ more))) (sym limits)
+      ∙ ap (stop FRAME_BYTES t intake.limits) (pieces-append count bytes more whole)
+      ∙ ended_stops t (pieces bytes) (pieces more) intake after over
+
+  -- one that runs goes on to the next piece
+  goes_on : is_running intake ≡ true → (part : List ℕ) → length part < FRAME_BYTES → IsBeforeStop t most (bytes ++ part)
+  goes_on running part short = λ more some.
+      let next = part ++ more in
+      let first = take FRAME_BYTES next in
+      let others = pieces (drop FRAME_BYTES next) in
+      let many = length-append part more in
+      let cut : pieces ((bytes ++ part) ++ more) ≡ pieces bytes ++ Datagram first ∷ others =
+      ap pieces (append_assoc bytes part more) ∙ pieces-append count bytes next whole ∙ ap (λ l. pieces bytes ++ l) (capture-first FRAME_BYTES next (lit< tt) (omega (arith, many, some))) in
+      let on = running_goes_on t (pieces bytes) (Datagram first) others intake after running in
+      let read : pieces_read t most ((bytes ++ part) ++ more) ≡ pieces bytes ++ Datagram first ∷ on.0 =
+      ap (λ l. stop FRAME_BYTES t l (pieces ((bytes ++ part) ++ more))) (sym limits) ∙ ap (stop FRAME_BYTES t intake.limits) cut ∙ on.1 in
+      let long : read_length t most ((bytes ++ part) ++ more) ≡ length bytes + (length first + sum_by length (datagrams on.0)) =
+      read_length-of t most ((bytes ++ part) ++ more) (pieces bytes ++ Datagram first ∷ on.0) read
+      ∙ ap (sum_by length) (datagrams-append (pieces bytes) (Datagram first ∷ on.0))
+      ∙ sum_by-append length (datagrams (pieces bytes)) (first ∷ datagrams on.0)
+      ∙ ap (λ n. n + sum_by length (first ∷ datagrams on.0)) (capture-length FRAME_BYTES bytes (lit< tt))
+      ∙ ap (λ n. length bytes + n) (sum_by-cons length first (datagrams on.0)) in
+      omega (arith, long, length-append bytes part, length-take FRAME_BYTES next, many, some, short)
+
+  -- less than a piece more is read, and gives nothing
+  reads_part : is_running intake ≡ true → (part : List ℕ) → length part < FRAME_BYTES → (pieces_read t most (bytes ++ part) ≡ pieces (bytes ++ part)) × (vectors_of t most (bytes ++ part) ≡ taken FRAME_BYTES t intake.limits (pieces bytes))
+  reads_part running [] short =
+      let all : bytes ++ [] ≡ bytes = append-nil bytes in (
+        ap (pieces_read t most) all ∙ ap (λ l. stop FRAME_BYTES t l (pieces bytes)) (sym limits) ∙ after.all ∙ sym (ap pieces all),
+        ap (vectors_of t most) all ∙ ap (λ l. taken FRAME_BYTES t l (pieces bytes)) (sym limits),
+      )
+  reads_part running (b ∷ rest) short =
+      let part = b ∷ rest in
+      let one : pieces part ≡ Datagram part ∷ [] = capture-one FRAME_BYTES part (omega arith) (omega (arith, short)) in
+      let more : pieces (bytes ++ part) ≡ pieces bytes ++ Datagram part ∷ [] = pieces-append count bytes part whole ∙ ap (λ l. pieces bytes ++ l) one in (
+        ap (λ l. stop FRAME_BYTES t l (pieces (bytes ++ part))) (sym limits)
+            ∙ ap (stop FRAME_BYTES t intake.limits) more
+            ∙ (running_after t (pieces bytes) intake after running).next (Datagram part)
+            ∙ sym more,
+        ap (λ l. taken FRAME_BYTES t l (pieces (bytes ++ part))) (sym limits)
+            ∙ ap (taken FRAME_BYTES t intake.limits) more
+            ∙ taken-push t (pieces bytes) (Datagram part) intake after running
+            ∙ ap (λ l. taken FRAME_BYTES t intake.limits (pieces bytes) ++ l) (data_frames-short FRAME_BYTES t part short)
+            ∙ append-nil (taken FRAME_BYTES t intake.limits (pieces bytes)),
+      )
 
 -- ---- what is left of a source that tells it
 
-remainder_at : (t : TicketFields) (all bytes left : List ℕ) → all ≡ bytes ++ left → read_length t all ≡ length bytes → (take (read_length t all) all ≡ bytes) × (drop (read_length t all) all ≡ left)
-remainder_at t all bytes left is long = (
-  ap (λ (n : ℕ). take n all) long ∙ ap (λ (l : List ℕ). take (length bytes) l) is ∙ take_at bytes left (length bytes) refl,
-  ap (λ (n : ℕ). drop n all) long ∙ ap (λ (l : List ℕ). drop (length bytes) l) is ∙ drop_at bytes left (length bytes) refl,
+remainder_at : (t : TicketFields) (most : ℕ) (all bytes left : List ℕ) → all ≡ bytes ++ left → read_length t most all ≡ length bytes → (take (read_length t most all) all ≡ bytes) × (drop (read_length t most all) all ≡ left)
+remainder_at t most all bytes left is long = (
+  ap (λ n. take n all) long ∙ ap (λ l. take (length bytes) l) is ∙ take_at bytes left (length bytes) refl,
+  ap (λ n. drop n all) long ∙ ap (λ l. drop (length bytes) l) is ∙ drop_at bytes left (length bytes) refl,
 )
 
 -- the source after bytes up to the stop
-remainder : (t : TicketFields) (bytes : List ℕ) (source : Change SourceTold) (old new : Option (List ℕ)) → source.old.left ≡ old → source.new.left ≡ new → bytes_read source ≡ bytes → old ≡ prepend_known bytes new → ((more : List ℕ) → new ≡ Some more → (read_length t (bytes ++ more) ≡ length bytes) × (vectors_of t bytes ≡ vectors_of t (bytes ++ more))) → IfSome old (λ all. LeavesRemainder t all source)
-remainder t bytes source None new was now are left at = tt
-remainder t bytes source (Some all) None was now are left at = absurd (cc left)
-remainder t bytes source (Some all) (Some more) was now are left at =
+remainder : (t : TicketFields) (most : ℕ) (bytes : List ℕ) (source : Change SourceTold) (old new : Option (List ℕ)) → source.new.left ≡ new → bytes_read source ≡ bytes → old ≡ prepend_known bytes new → pieces_read t most bytes ≡ pieces bytes → ((more : List ℕ) → new ≡ Some more → pieces_read t most (bytes ++ more) ≡ pieces bytes) → IfSome old (λ all. LeavesRemainder t most all source)
+remainder t most bytes source None new now are left here at = tt
+remainder t most bytes source (Some all) None now are left here at = absurd (cc left)
+remainder t most bytes source (Some all) (Some more) now are left here at =
     let is : all ≡ bytes ++ more = same_Some _ _ left in
-    let here = at more refl in
-    let split = remainder_at t all bytes more is (ap (read_length t) is ∙ here.0) in
+    let read : pieces_read t most all ≡ pieces bytes = ap (pieces_read t most) is ∙ at more refl in
+    let split = remainder_at t most all bytes more is (read_length-all t most all bytes read) in
     record {
       taken = are ∙ sym split.0;
       left = now ∙ ap Some (sym split.1);
-      same = ap (vectors_of t) are ∙ here.1 ∙ sym (ap (vectors_of t) is);
+      same = ap (pieces_read t most) are ∙ here ∙ sym read;
     }
 
--- and after a failure
-more_left : (t : TicketFields) (bytes : List ℕ) (source : Change SourceTold) (old new : Option (List ℕ)) → source.new.left ≡ new → bytes_read source ≡ bytes → old ≡ prepend_known bytes new → IsBeforeStop t bytes → IfSome old (λ all. LeavesMore t all source)
-more_left t bytes source None new now are left before = tt
-more_left t bytes source (Some all) None now are left before = absurd (cc left)
-more_left t bytes source (Some all) (Some []) now are left before = inr now
-more_left t bytes source (Some all) (Some (x ∷ more)) now are left before =
-    let is : all ≡ bytes ++ x ∷ more = same_Some _ _ left in
-    let longer : length bytes < read_length t (bytes ++ x ∷ more) = before (x ∷ more) (omega arith) in
-    inl (omega (arith, longer, ap length are, ap (read_length t) is))
+-- ---- what was received
 
-pub LeavesMore-failed : (t : TicketFields) (source : Change SourceTold) → FailsBeforeStop t source → IfSome source.old.left (λ all. LeavesMore t all source)
-LeavesMore-failed t source failed = more_left t (bytes_read source) source source.old.left source.new.left refl refl failed.took.left failed.before
-
--- ---- the spaces
-
--- the spaces so far, where n more pieces may come
-pub record Received (t : TicketFields) (n : ℕ) (source : Change SourceTold) (spaces : List Space) : Type 0 where
-  pub bytes : List ℕ
-  pub took : Took bytes [] source
-  pub vectors : List (ℕ × ℕ)
-  pub follows : Follows t n bytes vectors
-  pub spanned : AreSpanned t spaces vectors
-
--- before the first piece
-pub Received-start : (t : TicketFields) (now : SourceTold) (spaces : List Space) → AreSpanned t spaces [] → Received t MAX_PIECES (change now now) spaces
-Received-start t now spaces spanned =
-    record { bytes = []; took = Took-nothing now; vectors = []; follows = Follows-start t; spanned = spanned }
-
--- a fill that gave as many bytes as a piece has
-pub Took-piece : {E : Type 0} (now end : SourceTold) (n : ℕ) (buf : List ℕ) → FillsFrom {E = E} (change now end) (Ok n) buf → length buf ≡ 20 → 20 ≤ n → Took buf [] (change now end)
-Took-piece now end n buf fills size whole = filled (change now end) n buf fills (omega (arith, fills.bounded, size, whole))
-
--- after a data frame
-pub Received-vector : (t : TicketFields) (n : ℕ) (start now end : SourceTold) (spaces : List Space) (piece : List ℕ) (g row : ℕ) (new : Space) → Received t (suc n) (change start now) spaces → Took piece [] (change now end) → length piece ≡ 20 → frame_read t piece ≡ Ok (Vector g row) → g < generations t → new.width ≡ (get_or spaces g no_space).width → ((x : ℕ) → in_span new.rows x ≡ in_span ((get_or spaces g no_space).rows ++ row ∷ []) x) → Received t n (change start end) (set spaces g new)
-Received-vector t n start now end spaces piece g row new received took whole read within wide grown = record {
-  bytes = received.bytes ++ piece;
-  took = Took-append received.bytes piece [] start now end received.took took;
-  vectors = received.vectors ++ (g, row) ∷ [];
-  follows = Follows-vector t n received.bytes received.vectors piece g row received.follows whole read;
-  spanned = AreSpanned-push t spaces received.vectors g row new received.spanned within wide grown;
-}
-
--- after a piece that is no frame
-pub Received-fault : (t : TicketFields) (n : ℕ) (start now end : SourceTold) (spaces : List Space) (piece : List ℕ) (fault : FrameFault) → Received t (suc n) (change start now) spaces → Took piece [] (change now end) → length piece ≡ 20 → frame_read t piece ≡ Err fault → Received t n (change start end) spaces
-Received-fault t n start now end spaces piece fault received took whole read = record {
-  bytes = received.bytes ++ piece;
-  took = Took-append received.bytes piece [] start now end received.took took;
-  vectors = received.vectors;
-  follows = Follows-fault t n received.bytes received.vectors piece fault received.follows whole read;
-  spanned = received.spanned;
-}
-
--- at the stop
-at_stop : (t : TicketFields) (bytes : List ℕ) (source : Change SourceTold) (spaces : List Space) (vectors : List (ℕ × ℕ)) → Took bytes [] source → IsDone t bytes vectors → AreSpanned t spaces vectors → AreReceived t source spaces
-at_stop t bytes source spaces vectors took done spanned =
-    let are : bytes_read source ≡ bytes = bytes_read-took bytes [] source took refl in
-    let alone : vectors_of t bytes ≡ vectors = ap (vectors_of t) (sym (append-nil bytes)) ∙ done.taken [] in
-    let T : List ℕ → Type 0 = λ l. Took l [] source in
-    let E : List ℕ → Type 0 = λ l. EndsAtStop t l in
-    let V : List (ℕ × ℕ) → Type 0 = λ l. AreSpanned t spaces l in
+-- the intake has ended
+pub AreReceived-stop : (t : TicketFields) (most : ℕ) (source : Change SourceTold) (intake : IntakeState) (counted : GateCount) (spaces : List Space) → Received t most source intake spaces → is_running intake ≡ false → ((events : List Event) → IsAfter t events intake → counted ≡ counts FRAME_BYTES t intake.limits events) → AreReceived t most source counted spaces
+AreReceived-stop t most source intake counted spaces received over counting =
+    let bytes = received.bytes in
+    let are : bytes_read source ≡ bytes = bytes_read-took bytes [] source received.took refl in
+    let at = stops t most intake bytes received.count received.whole received.limits received.taken.after over in
+    let here : pieces_read t most bytes ≡ pieces bytes = ap (pieces_read t most) (sym (append-nil bytes)) ∙ at [] in
     record {
-      read = record { last = []; took = subst T (sym are) took; ended = subst E (sym are) done.long };
-      left = remainder t bytes source source.old.left source.new.left refl refl are took.left (λ more now. (done.long more, alone ∙ sym (done.taken more)));
-      spanned = subst V (sym (ap (vectors_of t) are ∙ alone)) spanned;
+      read = record {
+        last = [];
+        took = subst (λ l. Took l [] source) (sym are) received.took;
+        ended = subst (EndsAtStop t most) (sym are) (λ more. read_length-all t most (bytes ++ more) bytes (at more));
+      };
+      left = remainder t most bytes source source.old.left source.new.left refl are received.took.left here (λ more _. at more);
+      counts =
+          counting (pieces bytes) received.taken.after
+          ∙ ap (λ l. counts FRAME_BYTES t l (pieces bytes)) received.limits
+          ∙ sym (ap (counts_of t most) are);
+      spanned = subst (AreSpanned t spaces) (ap (λ l. taken FRAME_BYTES t l (pieces bytes)) received.limits ∙ sym (ap (vectors_of t most) are)) received.taken.spanned;
     }
 
--- at the source's end
-at_end : (t : TicketFields) (bytes : List ℕ) (source : Change SourceTold) (spaces : List Space) (vectors : List (ℕ × ℕ)) → Took bytes (AtEnd ∷ []) source → IsAtEnd source.new.left → IsOpen t bytes vectors → AreSpanned t spaces vectors → AreReceived t source spaces
-at_end t bytes source spaces vectors took end open_ spanned =
-    let are : bytes_read source ≡ bytes = bytes_read-took bytes (AtEnd ∷ []) source took refl in
-    let T : List ℕ → Type 0 = λ l. Took l (AtEnd ∷ []) source in
-    let B : List ℕ → Type 0 = λ l. IsBeforeStop t l in
-    let V : List (ℕ × ℕ) → Type 0 = λ l. AreSpanned t spaces l in
+-- a fill left room, since the source was at its end
+pub AreReceived-end : {E : Type 0} (t : TicketFields) (most : ℕ) (start now end : SourceTold) (intake : IntakeState) (counted : GateCount) (spaces : List Space) (n : ℕ) (buf : List ℕ) → Received t most (change start now) intake spaces → is_running intake ≡ true → FillsFrom {E = E} (change now end) (Ok n) buf → length buf ≡ FRAME_BYTES → n < FRAME_BYTES → ((events : List Event) → IsAfter t events intake → counted ≡ counts FRAME_BYTES t intake.limits (events ++ capture_events FRAME_BYTES (take n buf))) → AreReceived t most (change start end) counted spaces
+AreReceived-end t most start now end intake counted spaces n buf received running fills size few counting =
+    let part = take n buf in
+    let source = change start end in
+    let all = received.bytes ++ part in
+    let room : n < length buf = omega (arith, size, few) in
+    let short : length part < FRAME_BYTES = omega (arith, length-take n buf, few) in
+    let took : Took all (AtEnd ∷ []) source = Took-append received.bytes part (AtEnd ∷ []) start now end received.took (filled_short (change now end) n buf fills room) in
+    let are : bytes_read source ≡ all = bytes_read-took all (AtEnd ∷ []) source took refl in
+    let at_end : IsAtEnd end.left = ended_by_fill (change now end) n buf fills room in
+    let after = received.taken.after in
+    let before = goes_on t most intake received.bytes received.count received.whole received.limits after running part short in
+    let read = reads_part t most intake received.bytes received.count received.whole received.limits after running part short in
     record {
-      read = record { last = AtEnd ∷ []; took = subst T (sym are) took; ended = subst B (sym are) open_.before };
-      left = remainder t bytes source source.old.left source.new.left refl refl are took.left
-          (λ more now.
-          let none : more ≡ [] = subst IsAtEnd now end in
-          let all : bytes ++ more ≡ bytes = ap (λ (l : List ℕ). bytes ++ l) none ∙ append-nil bytes in
-          (ap (read_length t) all ∙ open_.long, ap (vectors_of t) (sym all)));
-      spanned = subst V (sym (ap (vectors_of t) are ∙ open_.taken)) spanned;
+      read = record {
+        last = AtEnd ∷ [];
+        took = subst (λ l. Took l (AtEnd ∷ []) source) (sym are) took;
+        ended = subst (IsBeforeStop t most) (sym are) before;
+      };
+      left = remainder t most all source source.old.left source.new.left refl are took.left read.0
+          (λ more is.
+          let none : more ≡ [] = subst IsAtEnd is at_end in
+          ap (λ l. pieces_read t most (all ++ l)) none ∙ ap (pieces_read t most) (append-nil all) ∙ read.0);
+      counts =
+          counting (pieces received.bytes) after
+          ∙ ap (counts FRAME_BYTES t intake.limits) (sym (pieces-append received.count received.bytes part received.whole))
+          ∙ ap (λ l. counts FRAME_BYTES t l (pieces all)) received.limits
+          ∙ sym (ap (counts_of t most) are);
+      spanned = subst (AreSpanned t spaces) (sym (ap (vectors_of t most) are ∙ read.1)) received.taken.spanned;
     }
 
-pub AreReceived-end : (t : TicketFields) (n : ℕ) (start now end : SourceTold) (spaces : List Space) (piece : List ℕ) → Received t (suc n) (change start now) spaces → Took piece [] (change now end) → length piece ≡ 20 → frame_read t piece ≡ Ok End → AreReceived t (change start end) spaces
-AreReceived-end t n start now end spaces piece received took whole read =
-    at_stop t (received.bytes ++ piece) (change start end) spaces received.vectors (Took-append received.bytes piece [] start now end received.took took)
-    (IsDone-end t n received.bytes received.vectors piece received.follows whole read) received.spanned
-
-pub AreReceived-most : (t : TicketFields) (n : ℕ) (source : Change SourceTold) (spaces : List Space) → n ≡ 0 → Received t n source spaces → AreReceived t source spaces
-AreReceived-most t zero source spaces none received =
-    at_stop t received.bytes source spaces received.vectors received.took (IsDone-most t received.bytes received.vectors received.follows) received.spanned
-AreReceived-most t (suc n) source spaces none received = absurd (omega arith)
-
--- a fill that left room
-pub AreReceived-short : {E : Type 0} (t : TicketFields) (n : ℕ) (start now end : SourceTold) (spaces : List Space) (count : ℕ) (buf : List ℕ) → Received t (suc n) (change start now) spaces → FillsFrom {E = E} (change now end) (Ok count) buf → length buf ≡ 20 → count < 20 → AreReceived t (change start end) spaces
-AreReceived-short t n start now end spaces count buf received fills size few =
-    let part = take count buf in
-    let short : count < length buf = omega (arith, size, few) in
-    let here : length part < 20 = omega (arith, length-take count buf, few) in
-    at_end t (received.bytes ++ part) (change start end) spaces received.vectors
-    (Took-append received.bytes part (AtEnd ∷ []) start now end received.took (filled_short (change now end) count buf fills short))
-    (ended_by_fill (change now end) count buf fills short)
-    (IsOpen-short t n received.bytes received.vectors part received.follows here) received.spanned
-
--- a fill that failed
-pub FailsBeforeStop-fill : {E : Type 0} (t : TicketFields) (n : ℕ) (start now end : SourceTold) (spaces : List Space) (e : E) (buf : List ℕ) → Received t (suc n) (change start now) spaces → FillsFrom {E = E} (change now end) (Err e) buf → length buf ≡ 20 → FailsBeforeStop t (change start end)
-FailsBeforeStop-fill t n start now end spaces e buf received fills size =
+-- a fill failed
+pub FailsBeforeStop-fill : {E : Type 0} (t : TicketFields) (most : ℕ) (start now end : SourceTold) (intake : IntakeState) (spaces : List Space) (e : E) (buf : List ℕ) → Received t most (change start now) intake spaces → is_running intake ≡ true → FillsFrom {E = E} (change now end) (Err e) buf → length buf ≡ FRAME_BYTES → FailsBeforeStop t most (change start end)
+FailsBeforeStop-fill t most start now end intake spaces e buf received running fills size =
     let part = fills.lost.0 in
-    let bytes = received.bytes ++ part in
-    let took = Took-append received.bytes part (Failed ∷ []) start now end received.took fills.lost.2 in
-    let are : bytes_read (change start end) ≡ bytes = bytes_read-took bytes (Failed ∷ []) (change start end) took refl in
-    let T : List ℕ → Type 0 = λ l. Took l (Failed ∷ []) (change start end) in
-    let B : List ℕ → Type 0 = λ l. IsBeforeStop t l in
+    let source = change start end in
+    let all = received.bytes ++ part in
+    let took : Took all (Failed ∷ []) source = Took-append received.bytes part (Failed ∷ []) start now end received.took fills.lost.2 in
+    let are : bytes_read source ≡ all = bytes_read-took all (Failed ∷ []) source took refl in
+    let before = goes_on t most intake received.bytes received.count received.whole received.limits received.taken.after running part (omega (arith, fills.lost.1, size)) in
     record {
-      took = subst T (sym are) took;
-      before = subst B (sym are) (before_stop t n received.bytes received.vectors part received.follows (omega (arith, fills.lost.1, size)));
+      took = subst (λ l. Took l (Failed ∷ []) source) (sym are) took;
+      before = subst (IsBeforeStop t most) (sym are) before;
     }

@@ -1,8 +1,7 @@
 -- The report by what a receiver holds, and a run as a whole.
-use Rattle.std.proofs.Common.{◌≡◌, ◌≢◌, ◌⊎◌, inl, inr, ℕ, ◌<◌, ◌≤◌, Bool, List, [], ◌∷◌, ◌++◌, length, get_or, Option, None, is_some, refl, ap, sym, subst, ◌∙◌, arith}
+use Rattle.std.proofs.Common.{◌≡◌, ◌⊎◌, inl, inr, ℕ, ◌<◌, Bool, List, [], ◌∷◌, ◌++◌, length, get_or, Option, None, is_some, refl, ap, sym, subst, ◌∙◌, arith}
 use Rattle.std.specs.Prelude.{map, codes, if◌then◌else◌, ◌||◌, ◌==◌, ◌↔◌, IfSome, IsSomeAnd}
 use Rattle.std.specs.List.{zip, range_with_len}
-use Rattle.std.proofs.lemmas.Bool.{cases_eq}
 use Rattle.std.proofs.lemmas.List.{same_lists, length-map, get_or-map}
 use Rattle.std.proofs.lemmas.List.FromFn.{length-map-range_with_len, get_or-map-range_with_len}
 use Rattle.std.proofs.lemmas.Slice.Zip.{get_or-zip, length-zip}
@@ -12,17 +11,17 @@ use Rattle.kk_rows.proofs.Dimensions.{dimension-same_span, in_span_innovative}
 use Rattle.kk_code.specs.Decoding.{answer}
 use Rattle.kk_code.specs.Codeword.{width}
 use Rattle.kk_code.specs.Ticket.{TicketFields, generations}
-use Rattle.kk_code.specs.TicketText.{IsTicketText, spelled}
-use Rattle.kk_top.specs.Answers.{rows_of, frozen, answers, generations_text}
-use Rattle.kk_top.specs.Command.{IsRefusal, MayTouchFile, status_line}
+use Rattle.kk_code.specs.TicketText.{spelled}
+use Rattle.kk_frame.specs.declared.gate_count.GateCount.{GateCount}
+use Rattle.kk_top.specs.Answers.{rows_of, frozen, answers, file_of, generations_text}
+use Rattle.kk_top.specs.Command.{MayTouchFile, status_line}
 use Rattle.kk_top.specs.Report.{count_line, generation_lines, outcome, outcomes, outcome_report}
-use Rattle.kk_top.specs.Spaces.{Spans, AreSpanned, IsUnpacked, no_space}
-use Rattle.kk_top.specs.commands.Unpack.{IsUnpackCommand, NamesTicket, NamesNoTicket, UnpacksUnder, vectors_of, unpacked, ReadsUpToStop, FailsBeforeStop, LeavesRemainder, LeavesMore, report_of, IsReported, IsUnpackStatus}
-use Rattle.kk_outside.specs.Causes.{CanCount}
+use Rattle.kk_top.specs.Delivery.{IsDelivered}
+use Rattle.kk_top.specs.Spaces.{Spans, AreSpanned, AreReceived, no_space}
+use Rattle.kk_top.specs.commands.Unpack.{IsUnpackCommand, NamesTicket, vectors_of, unpacked, ReadsUpToStop, FailsBeforeStop, LeavesRemainder, LeavesMore, report_of, IsReported}
 use Rattle.kk_outside.specs.Change.{Change}
-use Rattle.kk_outside.specs.Source.{SourceTold, SourceFailed, bytes_read}
-use Rattle.kk_outside.specs.Sink.{SinkTold, SinkFailed, WasGiven}
-use Rattle.kk_top.proofs.Receiving.{LeavesMore-failed}
+use Rattle.kk_outside.specs.Source.{SourceTold, bytes_read}
+use Rattle.kk_outside.specs.Sink.{SinkTold, WasGiven}
 
 -- what the report says of a generation
 abbrev told_of : TicketFields → List (ℕ × ℕ) → ℕ → ℕ × Bool
@@ -54,27 +53,15 @@ lines_are t spaces found vectors spanned is_found =
     ap (λ (n : ℕ). count_line n ++ generation_lines (outcomes spaces found)) spanned.count
     ∙ ap (λ (l : List (ℕ × Bool)). count_line (generations t) ++ generation_lines l) (outcomes-spanned t spaces found vectors spanned is_found)
 
-text_at : (t : TicketFields) (status : ℕ) (source : Change SourceTold) (file : Change SinkTold) (spaces : List Space) (found : List (Option (List ℕ))) → IsUnpacked t status source file spaces found → (status ≡ 4) ⊎ (status ≢ 4) → outcome_report status spaces found ≡ report_of t (bytes_read source) status
-text_at t status source file spaces found u (inl four) =
-    let P : ℕ → Type 0 = λ s. outcome_report s spaces found ≡ report_of t (bytes_read source) s in
-    subst P (sym four) refl
-text_at t status source file spaces found u (inr other) =
-    ap (λ (l : List ℕ). (if (status == 0) || (status == 3) then l else []) ++ status_line status) (lines_are t spaces found (vectors_of t (bytes_read source)) (u.received other).spanned (u.answered other))
-
 -- the report by the spaces and answers is that of the capture
-outcome_report-unpacked : (t : TicketFields) (status : ℕ) (source : Change SourceTold) (file : Change SinkTold) (spaces : List Space) (found : List (Option (List ℕ))) → IsUnpacked t status source file spaces found → outcome_report status spaces found ≡ report_of t (bytes_read source) status
-outcome_report-unpacked t status source file spaces found u = text_at t status source file spaces found u (cases_eq status 4)
+outcome_report-received : (t : TicketFields) (most status : ℕ) (source : Change SourceTold) (counted : GateCount) (spaces : List Space) (found : List (Option (List ℕ))) → AreReceived t most source counted spaces → found ≡ answers t (vectors_of t most (bytes_read source)) → outcome_report status spaces found ≡ report_of t most (bytes_read source) status
+outcome_report-received t most status source counted spaces found received answered =
+    ap (λ (l : List ℕ). (if (status == 0) || (status == 3) then l else []) ++ status_line status) (lines_are t spaces found (vectors_of t most (bytes_read source)) received.spanned answered)
 
-not_four : (status : ℕ) → (status ≡ 0) ⊎ (status ≡ 3) → status ≡ 4 → ⊥
-not_four status (inl zero_) e = omega (arith, zero_, e)
-not_four status (inr three) e = omega (arith, three, e)
-
--- an answer for each space, where the report tells of them
-pub one_each : (t : TicketFields) (status : ℕ) (source : Change SourceTold) (file : Change SinkTold) (spaces : List Space) (found : List (Option (List ℕ))) → IsUnpacked t status source file spaces found → (status ≡ 0) ⊎ (status ≡ 3) → length found ≡ length spaces
-one_each t status source file spaces found u is =
-    let other = not_four status is in
-    let a = λ (g : ℕ). answer t.code (frozen (vectors_of t (bytes_read source)) g) in
-    ap length (u.answered other) ∙ length-map-range_with_len a 0 (generations t) ∙ sym (u.received other).spanned.count
+-- an answer for each generation
+pub one_each : (t : TicketFields) (found : List (Option (List ℕ))) (vectors : List (ℕ × ℕ)) → found ≡ answers t vectors → length found ≡ generations t
+one_each t found vectors answered =
+    ap length answered ∙ length-map-range_with_len (λ g. answer t.code (frozen vectors g)) 0 (generations t)
 
 -- ---- the status of a run, by the one that its report tells
 
@@ -89,6 +76,11 @@ at_three told status (inr five) = (λ e. absurd (omega (arith, e, five.1)), λ e
 at_four : (told status : ℕ) → IsStatusOf told status → (status ≡ 4 → told ≡ 4) × (told ≡ 4 → status ≡ 4)
 at_four told status (inl same) = (λ e. sym same ∙ e, λ e. same ∙ e)
 at_four told status (inr five) = (λ e. absurd (omega (arith, e, five.1)), λ e. absurd (omega (arith, e, five.0)))
+
+not_four : (told : ℕ) → (told ≡ 3) ⊎ MayTouchFile told → told ≡ 4 → ⊥
+not_four told (inl three) e = omega (arith, three, e)
+not_four told (inr (inl zero_)) e = omega (arith, zero_, e)
+not_four told (inr (inr five)) e = omega (arith, five, e)
 
 touched_back : (told status : ℕ) → IsStatusOf told status → MayTouchFile status → MayTouchFile told
 touched_back told status (inl same) (inl zero_) = inl (sym same ∙ zero_)
@@ -109,34 +101,38 @@ one_ticket words t s named other = sym named.2.spells ∙ sym (ap spelled (same_
 
 -- ---- the run as a whole
 
--- what holds of a run under this ticket
-pub record IsRun (t : TicketFields) (status : ℕ) (source : Change SourceTold) (file report : Change SinkTold) : Type 0 where
-  pub not_decoded : (status ≡ 4 → ⊥) → ((status ≡ 3) ↔ (unpacked t (bytes_read source) ≡ None))
-  pub read_to_stop : (status ≡ 4 → ⊥) → ReadsUpToStop t source
-  pub failed_before_stop : status ≡ 4 → FailsBeforeStop t source
-  pub remainder : (status ≡ 4 → ⊥) → IfSome source.old.left (λ bytes. LeavesRemainder t bytes source)
-  pub more_left : status ≡ 4 → IfSome source.old.left (λ bytes. LeavesMore t bytes source)
-  pub written : MayTouchFile status → IsSomeAnd (unpacked t (bytes_read source)) (λ text. WasGiven text file)
-  pub reported : IsReported t (bytes_read source) status file report
+-- the file is that of the data frames
+pub unpacked-is : (t : TicketFields) (most : ℕ) (bytes : List ℕ) → unpacked t most bytes ≡ file_of t (answers t (vectors_of t most bytes))
+unfolding unpacked
+unpacked-is t most bytes = refl
 
-pub IsRun-unpacked : (t : TicketFields) (told status : ℕ) (source : Change SourceTold) (file report : Change SinkTold) (spaces : List Space) (found : List (Option (List ℕ))) → IsUnpacked t told source file spaces found → WasGiven (outcome_report told spaces found) report → IsStatusOf told status → IsRun t status source file report
-IsRun-unpacked t told status source file report spaces found u given same =
+-- what holds of a run under this ticket
+pub record IsRun (t : TicketFields) (most status : ℕ) (source : Change SourceTold) (file report : Change SinkTold) : Type 0 where
+  pub not_decoded : (status ≡ 4 → ⊥) → ((status ≡ 3) ↔ (unpacked t most (bytes_read source) ≡ None))
+  pub read_to_stop : (status ≡ 4 → ⊥) → ReadsUpToStop t most source
+  pub failed_before_stop : status ≡ 4 → FailsBeforeStop t most source
+  pub remainder : (status ≡ 4 → ⊥) → IfSome source.old.left (λ bytes. LeavesRemainder t most bytes source)
+  pub more_left : status ≡ 4 → IfSome source.old.left (λ bytes. LeavesMore t most bytes source)
+  pub written : MayTouchFile status → IsSomeAnd (unpacked t most (bytes_read source)) (λ text. WasGiven text file)
+  pub reported : IsReported t most (bytes_read source) status file report
+
+-- the source was read up to the stop
+pub IsRun-received : (t : TicketFields) (most told status : ℕ) (source : Change SourceTold) (file report : Change SinkTold) (counted : GateCount) (spaces : List Space) (found : List (Option (List ℕ))) → AreReceived t most source counted spaces → found ≡ answers t (vectors_of t most (bytes_read source)) → IsDelivered (file_of t found) told file → WasGiven (outcome_report told spaces found) report → IsStatusOf told status → IsRun t most status source file report
+IsRun-received t most told status source file report counted spaces found received answered delivered given same =
     let three = at_three told status same in
-    let four = at_four told status same in
-    let W : List ℕ → Type 0 = λ l. WasGiven l report in
+    let four : status ≡ 4 → ⊥ = λ e. not_four told delivered.no_other ((at_four told status same).0 e) in
+    let text = unpacked-is t most (bytes_read source) ∙ sym (ap (file_of t) answered) in
     record {
-      not_decoded = λ other.
-          let decides = u.not_decoded (λ e. other (four.1 e)) in
-          (λ e. decides.0 (three.0 e), λ none. three.1 (decides.1 none));
-      read_to_stop = λ other. (u.received (λ e. other (four.1 e))).read;
-      failed_before_stop = λ e. u.failed (four.0 e);
-      remainder = λ other. (u.received (λ e. other (four.1 e))).left;
-      more_left = λ e. LeavesMore-failed t source (u.failed (four.0 e));
-      written = λ is. u.written (touched_back told status same is);
+      not_decoded = λ _. rw text (λ e. delivered.not_decoded.0 (three.0 e), λ none. three.1 (delivered.not_decoded.1 none));
+      read_to_stop = λ _. received.read;
+      failed_before_stop = λ e. absurd (four e);
+      remainder = λ _. received.left;
+      more_left = λ e. absurd (four e);
+      written = λ is. rw text (delivered.written (touched_back told status same is));
       reported = record {
         told = told;
         same_or_five = same;
-        five = λ can is. u.output_fault can (touched_back told status same is);
-        given = subst W (outcome_report-unpacked t told source file spaces found u) given;
+        five = λ can is. delivered.output_fault can (touched_back told status same is);
+        given = subst (λ l. WasGiven l report) (outcome_report-received t most told source counted spaces found received answered) given;
       };
     }

@@ -1,23 +1,22 @@
 -- The row spaces of a receiver, one data frame after another, and what they decode to.
-use Rattle.std.proofs.Common.{◌≡◌, ◌≢◌, ◌⊎◌, inl, inr, subst, ℕ, ◌+◌, ◌-◌, ◌<◌, Bool, true, false, cond, eqb, List, [], ◌∷◌, ◌++◌, length, get_or, Option, Some, refl, ap, sym, ◌∙◌, arith, get_or-set_same, get_or-set_other}
+use Rattle.std.proofs.Common.{◌≡◌, ◌≢◌, ◌⊎◌, inl, inr, subst, ℕ, ◌+◌, ◌<◌, true, false, cond, eqb, List, [], ◌∷◌, ◌++◌, length, get_or, All, take, refl, ap, sym, ◌∙◌, arith, get_or-set_same, get_or-set_other}
 use Rattle.std.specs.Prelude.{map}
-use Rattle.std.proofs.Math.ListN.{set, length-set}
-use Rattle.std.specs.Bool.{OnTrue, OnFalse}
-use Rattle.std.proofs.lemmas.List.{same_lists, length-map, get_or-map}
+use Rattle.std.proofs.Math.ListN.{set, length-set, get_or-map as get_or-see}
+use Rattle.std.proofs.lemmas.List.{same_lists, length-map, get_or-map, take_more}
 use Rattle.std.proofs.lemmas.List.FromFn.{length-map-range_with_len, get_or-map-range_with_len}
 use Rattle.std.proofs.lemmas.Bool.{cases_eq}
 use Rattle.std.proofs.lemmas.Bool.Decides.{nat_tests}
 use Rattle.kk_rows.specs.Span.{in_span}
 use Rattle.kk_rows.specs.Space.{Space}
+use Rattle.kk_rows.specs.declared.rows.Row.{Row}
 use Rattle.kk_rows.proofs.Spans.{in_span-inserted}
 use Rattle.kk_rows.proofs.Dimensions.{in_span_innovative}
 use Rattle.kk_code.specs.Codeword.{Parameters, width}
 use Rattle.kk_code.specs.Decoding.{answer}
 use Rattle.kk_code.specs.Ticket.{TicketFields, generations}
-use Rattle.std.specs.Option.{option_map}
-use Rattle.kk_assemble.specs.FileBits.{joined}
-use Rattle.kk_assemble.specs.Messages.{all_messages}
-use Rattle.kk_top.specs.Answers.{rows_of, frozen, answers, file_text}
+use Rattle.kk_frame.specs.Frame.{Vector, IsFrame}
+use Rattle.kk_frame.specs.FrameView.{pairs}
+use Rattle.kk_top.specs.Answers.{rows_of, frozen, answers}
 use Rattle.kk_top.specs.Spaces.{Spans, AreSpanned, no_space}
 use Rattle.kk_decode.proofs.Answering.{answer-same_span}
 
@@ -69,6 +68,23 @@ AreSpanned-push t spaces vectors g row new spanned within wide grown = record {
   each = λ h below. spans_after t spaces vectors g row new spanned within (Spans-inserted (width t.code) (get_or spaces g no_space) new (rows_of g vectors) row (spanned.each g within) wide grown) h below (cases_eq h g);
 }
 
+-- ---- the data frames of a batch
+
+pub in_batch : (t : TicketFields) (frames : List (ℕ × Row)) (batch : List (ℕ × ℕ)) (i : ℕ) (d : ℕ × Row) → pairs frames ≡ batch → All (λ f. IsFrame t (Vector f.0 f.1)) batch → i < length frames → IsFrame t (Vector (get_or frames i d).0 (get_or frames i d).1.0)
+in_batch t frames batch i d are all within =
+    let see : ℕ × Row → ℕ × ℕ = λ f. (f.0, f.1.0) in
+    let at : get_or batch i (see d) ≡ see (get_or frames i d) = ap (λ l. get_or l i (see d)) (sym are) ∙ get_or-see see frames i d in
+    let inside : i < length batch = omega (arith, within, ap length are, length-map frames see) in
+    subst (λ f. IsFrame t (Vector f.0 f.1)) at (all i (see d) inside)
+
+-- the first i + 1 frames of a batch
+pub batch_more : (frames : List (ℕ × Row)) (i : ℕ) (d : ℕ × Row) → i < length frames → take (i + 1) (pairs frames) ≡ take i (pairs frames) ++ ((get_or frames i d).0, (get_or frames i d).1.0) ∷ []
+batch_more frames i d within =
+    let see : ℕ × Row → ℕ × ℕ = λ f. (f.0, f.1.0) in
+    take_more (pairs frames) i (see d) (omega (arith, within, length-map frames see)) ∙ ap (λ f. take i (pairs frames) ++ f ∷ []) (get_or-see see frames i d)
+
+-- ---- what the spaces decode to
+
 -- the answers of the spaces are those of the data frames
 pub answers-spanned : (t : TicketFields) (p : Parameters) (spaces : List Space) (vectors : List (ℕ × ℕ)) → p ≡ t.code → AreSpanned t spaces vectors → map (λ (space : Space). answer p space.rows) spaces ≡ answers t vectors
 answers-spanned t p spaces vectors same spanned =
@@ -82,16 +98,3 @@ answers-spanned t p spaces vectors same spanned =
     get_or-map f spaces g no_space d (omega (arith, spanned.count))
     ∙ answer-spanned t.code (width t.code) (get_or spaces g no_space) vectors g (spanned.each g below)
     ∙ sym (get_or-map-range_with_len h 0 (generations t) g g d below (omega arith)))
-
-pub OnTrue-map : (b : Bool) (P Q : Type 0) → (P → Q) → OnTrue b P → OnTrue b Q
-OnTrue-map true P Q f h = f h
-OnTrue-map false P Q f h = h
-
-pub OnFalse-map : (b : Bool) (P Q : Type 0) → (P → Q) → OnFalse b P → OnFalse b Q
-OnFalse-map true P Q f h = h
-OnFalse-map false P Q f h = f h
-
--- the file that the spaces' answers make
-pub file_text-spanned : (t : TicketFields) (p : Parameters) (spaces read : List Space) (vectors : List (ℕ × ℕ)) (answers : List (Option (List ℕ))) → p ≡ t.code → AreSpanned t spaces vectors → read ≡ spaces → answers ≡ map (λ (space : Space). answer p space.rows) read → file_text t vectors ≡ option_map (joined t.code t.length) (all_messages answers)
-file_text-spanned t p spaces read vectors answers same spanned is_read are =
-    sym (ap (λ (l : List (Option (List ℕ))). option_map (joined t.code t.length) (all_messages l)) (are ∙ ap (λ (l : List Space). map (λ (space : Space). answer p space.rows) l) is_read ∙ answers-spanned t p spaces vectors same spanned))

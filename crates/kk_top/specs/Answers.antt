@@ -22,9 +22,13 @@ frozen vectors g = innovative (rows_of g vectors)
 abbrev pub answers : TicketFields → List (ℕ × ℕ) → List (Option (List ℕ))
 answers t vectors = map (λ g. answer t.code (frozen vectors g)) (range_with_len 0 (generations t))
 
--- the file that the answers make, where every answer is a message
+-- the file that these answers make, where each is a message
+abbrev pub file_of : TicketFields → List (Option (List ℕ)) → Option (List ℕ)
+file_of t found = option_map (joined t.code t.length) (all_messages found)
+
+-- the file that the data frames make
 abbrev pub file_text : TicketFields → List (ℕ × ℕ) → Option (List ℕ)
-file_text t vectors = option_map (joined t.code t.length) (all_messages (answers t vectors))
+file_text t vectors = file_of t (answers t vectors)
 
 -- What the report says of the generations: how many there are, and of each the dimension of its space and whether it
 -- has an answer.

@@ -1,5 +1,6 @@
 pub mod Answers
 pub mod Command
+pub mod Delivery
 pub mod Report
 pub mod Spaces
 pub mod Status

@@ -1,17 +1,19 @@
--- The row spaces of a receiver, one for each generation, and what an unpacking leaves in them.
-use Rattle.std.specs.Prelude.{◌≡◌, ◌↔◌, ◌⊎◌, ℕ, ◌<◌, List, [], length, Option, None, IfSome, IsSomeAnd}
+-- The row spaces of a receiver, one for each generation.
+use Rattle.std.specs.Prelude.{◌≡◌, ℕ, ◌<◌, List, [], length, IfSome}
 use Rattle.std.specs.List.{slice_index_or}
 use Rattle.kk_rows.specs.Span.{in_span}
 use Rattle.kk_rows.specs.Space.{Space}
-use Rattle.kk_outside.specs.Causes.{CanCount}
 use Rattle.kk_outside.specs.Change.{Change}
-use Rattle.kk_outside.specs.Source.{SourceTold, SourceFailed, bytes_read}
-use Rattle.kk_outside.specs.Sink.{SinkTold, SinkFailed, WasGiven}
+use Rattle.kk_outside.specs.Source.{SourceTold, bytes_read}
+use Rattle.kk_outside.specs.declared.event.Event.{Event}
 use Rattle.kk_code.specs.Codeword.{width}
 use Rattle.kk_code.specs.Ticket.{TicketFields, generations}
-use Rattle.kk_top.specs.Answers.{rows_of, answers}
-use Rattle.kk_top.specs.Command.{MayTouchFile}
-use Rattle.kk_top.specs.commands.Unpack.{vectors_of, unpacked, ReadsUpToStop, FailsBeforeStop, LeavesRemainder}
+use Rattle.kk_frame.specs.declared.frame.TheConstants.{FRAME_BYTES}
+use Rattle.kk_frame.specs.declared.gate_count.GateCount.{GateCount}
+use Rattle.kk_frame.specs.Events.{taken}
+use Rattle.kk_frame.specs.Intake.{IntakeState, IsAfter}
+use Rattle.kk_top.specs.Answers.{rows_of}
+use Rattle.kk_top.specs.commands.Unpack.{vectors_of, counts_of, ReadsUpToStop, LeavesRemainder}
 
 -- a space of rows of this width, which these rows span
 pub record Spans (w : ℕ) (space : Space) (rows : List ℕ) : Type 0 where
@@ -26,20 +28,14 @@ pub record AreSpanned (t : TicketFields) (spaces : List Space) (vectors : List (
   pub count : length spaces ≡ generations t
   pub each : (g : ℕ) → g < generations t → Spans (width t.code) (slice_index_or spaces g no_space) (rows_of g vectors)
 
--- The capture was read up to the stop, and the spaces are those of its data frames.
-pub record AreReceived (t : TicketFields) (source : Change SourceTold) (spaces : List Space) : Type 0 where
-  pub read : ReadsUpToStop t source
-  pub left : IfSome source.old.left (λ bytes. LeavesRemainder t bytes source)
-  pub spanned : AreSpanned t spaces (vectors_of t (bytes_read source))
+-- The intake was given these events, and each generation's space is what the rows that were taken of them span.
+pub record HasTaken (t : TicketFields) (events : List Event) (intake : IntakeState) (spaces : List Space) : Type 0 where
+  pub after : IsAfter t events intake
+  pub spanned : AreSpanned t spaces (taken FRAME_BYTES t intake.limits events)
 
--- What an unpacking came to, and what it holds for the report: unless the source failed, the space and the answer of
--- each generation.
-pub record IsUnpacked (t : TicketFields) (status : ℕ) (source : Change SourceTold) (file : Change SinkTold) (spaces : List Space) (found : List (Option (List ℕ))) : Type 0 where
-  pub failed : status ≡ 4 → FailsBeforeStop t source
-  pub received : (status ≡ 4 → ⊥) → AreReceived t source spaces
-  pub counted : CanCount source.old.faults → ((status ≡ 4) ↔ SourceFailed source)
-  pub answered : (status ≡ 4 → ⊥) → found ≡ answers t (vectors_of t (bytes_read source))
-  pub not_decoded : (status ≡ 4 → ⊥) → ((status ≡ 3) ↔ (unpacked t (bytes_read source) ≡ None))
-  pub written : MayTouchFile status → IsSomeAnd (unpacked t (bytes_read source)) (λ text. WasGiven text file)
-  pub output_fault : CanCount file.old.faults → MayTouchFile status → ((status ≡ 5) ↔ SinkFailed file)
-  pub no_other : (status ≡ 3) ⊎ ((status ≡ 4) ⊎ MayTouchFile status)
+-- The capture was read up to the stop, the spaces are those of its data frames, and these are its counts.
+pub record AreReceived (t : TicketFields) (most : ℕ) (source : Change SourceTold) (counted : GateCount) (spaces : List Space) : Type 0 where
+  pub read : ReadsUpToStop t most source
+  pub left : IfSome source.old.left (λ bytes. LeavesRemainder t most bytes source)
+  pub counts : counted ≡ counts_of t most (bytes_read source)
+  pub spanned : AreSpanned t spaces (vectors_of t most (bytes_read source))

@@ -2,6 +2,7 @@
 #![tactic(auto)]
 
 mod commands;
+mod delivery;
 mod lines;
 mod program;
 mod receive;

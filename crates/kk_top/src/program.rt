@@ -27,8 +27,8 @@ pub fn run<R, S: Source, K: Sink, P: Sink>(
     // Which status comes: 8 is want of memory, and 0 comes where no other status does.
     ensures words_refused { (result ≡ 1) ↔ ((text : List ℕ) → IsUnpackCommand (texts words.now) text → ⊥) }
     ensures ticket_refused { (result ≡ 2) ↔ NamesNoTicket (texts words.now) }
-    ensures not_decoded { (t : TicketFields) → UnpacksUnder t (texts words.now) result → (result ≡ 4 → ⊥)
-        → ((result ≡ 3) ↔ (unpacked t (bytes_read (change (S.told source.old) (S.told source.new))) ≡ None)) }
+    ensures not_decoded { (t : TicketFields) (most : ℕ) → UnpacksUnder t most (texts words.now) result → (result ≡ 4 → ⊥)
+        → ((result ≡ 3) ↔ (unpacked t most (bytes_read (change (S.told source.old) (S.told source.new))) ≡ None)) }
     ensures input_fault { CanCount (S.told source.old).faults
         → ((result ≡ 4) ↔ SourceFailed (change (S.told source.old) (S.told source.new))) }
     ensures output_fault { CanCount (K.told file.old).faults → CanCount (P.told report.old).faults → MayTouchFile result
@@ -37,29 +37,29 @@ pub fn run<R, S: Source, K: Sink, P: Sink>(
 
     // What was read: nothing after a refusal, else exactly the bytes up to the stop, unless a read failed before it.
     ensures unread { IsRefusal result → source.new ≡ source.old }
-    ensures read_to_stop { (t : TicketFields) → UnpacksUnder t (texts words.now) result → (result ≡ 4 → ⊥)
-        → ReadsUpToStop t (change (S.told source.old) (S.told source.new)) }
-    ensures failed_before_stop { (t : TicketFields) → UnpacksUnder t (texts words.now) result → result ≡ 4
-        → FailsBeforeStop t (change (S.told source.old) (S.told source.new)) }
+    ensures read_to_stop { (t : TicketFields) (most : ℕ) → UnpacksUnder t most (texts words.now) result → (result ≡ 4 → ⊥)
+        → ReadsUpToStop t most (change (S.told source.old) (S.told source.new)) }
+    ensures failed_before_stop { (t : TicketFields) (most : ℕ) → UnpacksUnder t most (texts words.now) result → result ≡ 4
+        → FailsBeforeStop t most (change (S.told source.old) (S.told source.new)) }
 
     // The same where the source tells the bytes that it has left.
-    ensures remainder { (t : TicketFields) → UnpacksUnder t (texts words.now) result → (result ≡ 4 → ⊥)
-        → IfSome (S.told source.old).left (λ bytes. LeavesRemainder t bytes (change (S.told source.old) (S.told source.new))) }
-    ensures more_left { (t : TicketFields) → UnpacksUnder t (texts words.now) result → result ≡ 4
-        → IfSome (S.told source.old).left (λ bytes. LeavesMore t bytes (change (S.told source.old) (S.told source.new))) }
+    ensures remainder { (t : TicketFields) (most : ℕ) → UnpacksUnder t most (texts words.now) result → (result ≡ 4 → ⊥)
+        → IfSome (S.told source.old).left (λ bytes. LeavesRemainder t most bytes (change (S.told source.old) (S.told source.new))) }
+    ensures more_left { (t : TicketFields) (most : ℕ) → UnpacksUnder t most (texts words.now) result → result ≡ 4
+        → IfSome (S.told source.old).left (λ bytes. LeavesMore t most bytes (change (S.told source.old) (S.told source.new))) }
 
     // What the file's sink holds. An empty file makes no call on it.
     ensures unwritten { (MayTouchFile result → ⊥) → file.new ≡ file.old }
-    ensures no_bytes { (t : TicketFields) → UnpacksUnder t (texts words.now) result
-        → unpacked t (bytes_read (change (S.told source.old) (S.told source.new))) ≡ Some [] → file.new ≡ file.old }
-    ensures file { (t : TicketFields) → UnpacksUnder t (texts words.now) result → MayTouchFile result
-        → IsSomeAnd (unpacked t (bytes_read (change (S.told source.old) (S.told source.new))))
+    ensures no_bytes { (t : TicketFields) (most : ℕ) → UnpacksUnder t most (texts words.now) result
+        → unpacked t most (bytes_read (change (S.told source.old) (S.told source.new))) ≡ Some [] → file.new ≡ file.old }
+    ensures file { (t : TicketFields) (most : ℕ) → UnpacksUnder t most (texts words.now) result → MayTouchFile result
+        → IsSomeAnd (unpacked t most (bytes_read (change (S.told source.old) (S.told source.new))))
         (λ text. WasGiven text (change (K.told file.old) (K.told file.new))) }
 
     // What the report's sink holds.
     ensures refused { IsRefusal result → WasGiven (status_line result) (change (P.told report.old) (P.told report.new)) }
-    ensures reported { (t : TicketFields) → UnpacksUnder t (texts words.now) result
-        → IsReported t (bytes_read (change (S.told source.old) (S.told source.new))) result
+    ensures reported { (t : TicketFields) (most : ℕ) → UnpacksUnder t most (texts words.now) result
+        → IsReported t most (bytes_read (change (S.told source.old) (S.told source.new))) result
         (change (K.told file.old) (K.told file.new)) (change (P.told report.old) (P.told report.new)) }
 {
     run_unpack(alloc, words, source, file, report)

@@ -1,25 +1,25 @@
 //! An unpacking: all its memory, and its steps.
-ghost use Rattle.std.specs.Prelude.{◌≡◌, ◌<◌, ◌≤◌, ℕ, List, [], length, map, vec_len, vec_capacity, IfOk, IfSome, Some, None, OnOk, OnErr, All};
-ghost use Rattle.std.specs.Bool.{OnTrue, OnFalse};
+ghost use Rattle.std.specs.Prelude.{◌≡◌, ◌<◌, ◌≤◌, ℕ, List, [], length, map, vec_len, vec_capacity, IfOk, IfSome, Some, OnErr, All};
 ghost use Rattle.kk_outside.specs.Causes.{HasCause};
 ghost use Rattle.kk_outside.specs.Change.{change};
-ghost use Rattle.kk_outside.specs.Source.{bytes_read};
 ghost use Rattle.kk_code.specs.Codeword.{IsMessage, width};
 ghost use Rattle.kk_code.specs.Decoding.{answer};
 ghost use Rattle.kk_code.specs.Ticket.{generations};
-ghost use Rattle.kk_top.specs.Answers.{answers, file_text};
+ghost use Rattle.kk_top.specs.Answers.{answers, file_of};
 ghost use Rattle.kk_top.specs.Command.{MayTouchFile};
+ghost use Rattle.kk_top.specs.Delivery.{IsDelivered};
 ghost use Rattle.kk_top.specs.Status.{code_of};
-ghost use Rattle.kk_top.specs.commands.Unpack.{FailsBeforeStop, unpacked};
-ghost use Rattle.kk_top.specs.Spaces.{AreReceived, AreSpanned, IsUnpacked};
+ghost use Rattle.kk_top.specs.commands.Unpack.{FailsBeforeStop};
+ghost use Rattle.kk_top.specs.Spaces.{AreReceived, AreSpanned};
 
+use crate::delivery::deliver;
 use crate::receive::take_frames;
 use crate::status::Status;
-use kk_assemble::join;
 use kk_code::{Code, Message, Ticket};
 use kk_decode::{Scratch, decode_space};
 use kk_field::Steps;
-use kk_outside::{Alloc, Failed, Sink, Source, write_all};
+use kk_frame::GateCount;
+use kk_outside::{Alloc, Failed, Sink, Source};
 use kk_rows::RowSpace;
 use std::alloc::Global;
 use std::marker::Brand;
@@ -57,60 +57,34 @@ impl Unpacking {
         })
     }
 
-    /// Takes the frames of the source, decodes each generation, and writes the file.
-    pub(crate) fn run<S: Source, K: Sink>(
+    /// Takes the frames of a source up to END, to piece number `most` or to its end, and answers what it counted.
+    pub(crate) fn receive<S: Source>(
         &mut self,
         ticket: &Ticket,
+        most: u32,
         source: &mut S,
-        file: &mut K,
-    ) -> Status
+    ) -> Result<GateCount, Failed>
+        requires most { 1 ≤ most }
         requires spaces { AreSpanned ticket.now self.old.spaces.items [] }
-        requires answers { self.old.answers.items ≡ [] }
-        requires room { generations ticket.now ≤ vec_capacity self.old.answers }
-        requires file { vec_len self.old.file ≡ ticket.now.length }
-        ensures unpacked { IsUnpacked ticket.now (code_of result) (change (S.told source.old) (S.told source.new))
-            (change (K.told file.old) (K.told file.new)) self.new.spaces.items self.new.answers.items }
-        ensures unwritten { (MayTouchFile (code_of result) → ⊥) → file.new ≡ file.old }
-        ensures no_bytes { unpacked ticket.now (bytes_read (change (S.told source.old) (S.told source.new))) ≡ Some []
-            → file.new ≡ file.old }
-    {
-        if self.receive(source, ticket).is_err() {
-            return Status::InputFault;
-        }
-        if !self.decode(ticket) {
-            return Status::NotDecoded;
-        }
-        match write_all(file, &self.file) {
-            Ok(()) => Status::Done,
-            Err(_) => Status::OutputFault,
-        }
-    }
-
-    /// Takes the frames of a source up to END, or to its end.
-    fn receive<S: Source>(&mut self, source: &mut S, ticket: &Ticket) -> Result<(), Failed>
-        requires { AreSpanned ticket.now self.old.spaces.items [] }
-        ensures received { OnOk result (AreReceived ticket.now (change (S.told source.old) (S.told source.new)) self.new.spaces.items) }
-        ensures failed { OnErr result (FailsBeforeStop ticket.now (change (S.told source.old) (S.told source.new))) }
+        ensures received { IfOk result (λ counted. AreReceived ticket.now most (change (S.told source.old) (S.told source.new)) counted self.new.spaces.items) }
+        ensures failed { OnErr result (FailsBeforeStop ticket.now most (change (S.told source.old) (S.told source.new))) }
         ensures cause { HasCause (S.told source.old).faults (S.told source.new).faults result }
         ensures answers { self.new.answers ≡ self.old.answers }
         ensures file { self.new.file ≡ self.old.file }
     {
-        take_frames(source, ticket, &mut self.spaces)
+        take_frames(source, ticket, most, &mut self.spaces)
     }
 
-    /// Decodes each generation, and puts the file together where each has an answer.
-    fn decode(&mut self, ticket: &Ticket) -> bool
+    /// Decodes each generation.
+    pub(crate) fn decode(&mut self, ticket: &Ticket)
         requires spaces { (vectors : List (ℕ × ℕ)) × AreSpanned ticket.now self.old.spaces.items vectors }
         requires answers { self.old.answers.items ≡ [] }
         requires room { generations ticket.now ≤ vec_capacity self.old.answers }
-        requires file { vec_len self.old.file ≡ ticket.now.length }
-        ensures file { (vectors : List (ℕ × ℕ)) → AreSpanned ticket.now self.old.spaces.items vectors
-            → OnTrue result (file_text ticket.now vectors ≡ Some self.new.file.items) }
-        ensures none { (vectors : List (ℕ × ℕ)) → AreSpanned ticket.now self.old.spaces.items vectors
-            → OnFalse result (file_text ticket.now vectors ≡ None) }
         ensures answers { (vectors : List (ℕ × ℕ)) → AreSpanned ticket.now self.old.spaces.items vectors
             → self.new.answers.items ≡ answers ticket.now vectors }
+        ensures messages { All (λ a. IfSome a (IsMessage ticket.now.code)) self.new.answers.items }
         ensures spaces { self.new.spaces ≡ self.old.spaces }
+        ensures file { self.new.file ≡ self.old.file }
     {
         answer_each::<Brand>(
             &ticket.code(),
@@ -118,7 +92,20 @@ impl Unpacking {
             &mut self.answers,
             Blank::new(1),
         );
-        join(&self.answers, ticket, &mut self.file)
+    }
+
+    /// Writes the file, where each generation has an answer.
+    pub(crate) fn deliver<K: Sink>(&mut self, ticket: &Ticket, file: &mut K) -> Status
+        requires one_each { length self.old.answers.items ≡ generations ticket.now }
+        requires messages { All (λ a. IfSome a (IsMessage ticket.now.code)) self.old.answers.items }
+        requires room { vec_len self.old.file ≡ ticket.now.length }
+        ensures delivered { IsDelivered (file_of ticket.now self.old.answers.items) (code_of result) (change (K.told file.old) (K.told file.new)) }
+        ensures unwritten { (MayTouchFile (code_of result) → ⊥) → file.new ≡ file.old }
+        ensures no_bytes { file_of ticket.now self.old.answers.items ≡ Some [] → file.new ≡ file.old }
+        ensures spaces { self.new.spaces ≡ self.old.spaces }
+        ensures answers { self.new.answers ≡ self.old.answers }
+    {
+        deliver(&self.answers, ticket, &mut self.file, file)
     }
 }
 

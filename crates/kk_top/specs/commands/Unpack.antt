@@ -1,12 +1,17 @@
 -- `unpack`: a capture of frames comes in, and the file goes out.
-use Rattle.std.specs.Prelude.{◌≡◌, ◌↔◌, ◌⊎◌, ℕ, ◌==◌, ◌||◌, if◌then◌else◌, ◌<◌, Option, Some, None, List, [], ◌∷◌, ◌++◌, length, take, drop, sum_by, codes}
+use Rattle.std.specs.Prelude.{◌≡◌, ◌↔◌, ◌⊎◌, ℕ, ◌==◌, ◌||◌, if◌then◌else◌, ◌<◌, Option, Some, List, [], ◌∷◌, ◌++◌, length, take, drop, sum_by, codes}
 use Rattle.kk_outside.specs.Causes.{CanCount}
 use Rattle.kk_outside.specs.Change.{Change}
 use Rattle.kk_outside.specs.Source.{Read, AtEnd, Failed, SourceTold, Took, bytes_read}
 use Rattle.kk_outside.specs.Sink.{SinkTold, SinkFailed, WasGiven}
 use Rattle.kk_code.specs.Ticket.{TicketFields}
 use Rattle.kk_code.specs.TicketText.{IsTicketText}
-use Rattle.kk_frame.specs.Gate.{pieces, stop, taken}
+use Rattle.kk_frame.specs.declared.frame.TheConstants.{FRAME_BYTES}
+use Rattle.kk_frame.specs.declared.limits.Limits.{Limits}
+use Rattle.kk_frame.specs.declared.gate_count.GateCount.{GateCount}
+use Rattle.kk_frame.specs.Capture.{capture_events}
+use Rattle.kk_frame.specs.Events.{datagrams, stop, taken, counts}
+use Rattle.kk_outside.specs.declared.event.Event.{Event}
 use Rattle.kk_top.specs.declared.receive.TheConstants.{MAX_PIECES}
 use Rattle.kk_top.specs.Answers.{file_text, generations_text}
 use Rattle.kk_top.specs.Command.{IsRefusal, MayTouchFile, status_line}
@@ -25,75 +30,92 @@ NamesTicket words t = (text : List ℕ) × IsUnpackCommand words text × IsTicke
 abbrev pub NamesNoTicket : List (List ℕ) → Type 0
 NamesNoTicket words = (text : List ℕ) × IsUnpackCommand words text × ((t : TicketFields) → IsTicketText text t → ⊥)
 
--- a run with these words and this status unpacked under this ticket: it wasn't refused
-pub record UnpacksUnder (t : TicketFields) (words : List (List ℕ)) (status : ℕ) : Type 0 where
+-- A run with these words and this status unpacked under this ticket, with at most so many pieces: it wasn't refused.
+pub record UnpacksUnder (t : TicketFields) (most : ℕ) (words : List (List ℕ)) (status : ℕ) : Type 0 where
   pub named : NamesTicket words t
+  pub pieces : most ≡ MAX_PIECES
   pub accepted : IsRefusal status → ⊥
 
 -- ---- the capture
 
+-- at most so many pieces are taken; a capture has no quiets
+abbrev pub piece_limits : ℕ → Limits
+piece_limits most = record { idle = 1; most = most }
+
+-- the pieces of a capture as the events of a gate
+abbrev pub pieces : List ℕ → List Event
+pieces bytes = capture_events FRAME_BYTES bytes
+
+-- the pieces that are read: those up to the stop
+abbrev pub pieces_read : TicketFields → ℕ → List ℕ → List Event
+pieces_read t most bytes = stop FRAME_BYTES t (piece_limits most) (pieces bytes)
+
 -- the data frames of a capture, up to the stop
-abbrev pub vectors_of : TicketFields → List ℕ → List (ℕ × ℕ)
-vectors_of t bytes = taken t MAX_PIECES (pieces bytes)
+abbrev pub vectors_of : TicketFields → ℕ → List ℕ → List (ℕ × ℕ)
+vectors_of t most bytes = taken FRAME_BYTES t (piece_limits most) (pieces bytes)
+
+-- what is counted of a capture up to the stop, and why it stops there
+abbrev pub counts_of : TicketFields → ℕ → List ℕ → GateCount
+counts_of t most bytes = counts FRAME_BYTES t (piece_limits most) (pieces bytes)
 
 -- the file that a capture unpacks to, where every generation decodes
-unfoldable pub unpacked : TicketFields → List ℕ → Option (List ℕ)
-unpacked t bytes = file_text t (vectors_of t bytes)
+unfoldable pub unpacked : TicketFields → ℕ → List ℕ → Option (List ℕ)
+unpacked t most bytes = file_text t (vectors_of t most bytes)
 
--- how many bytes of a capture are read: those of the pieces up to the stop
-unfoldable pub read_length : TicketFields → List ℕ → ℕ
-read_length t bytes = sum_by length (stop t MAX_PIECES (pieces bytes))
+-- how many bytes of a capture are read
+unfoldable pub read_length : TicketFields → ℕ → List ℕ → ℕ
+read_length t most bytes = sum_by length (datagrams (pieces_read t most bytes))
 
 -- The stop is at the end of these bytes: nothing that comes after them is read.
-abbrev pub EndsAtStop : TicketFields → List ℕ → Type 0
-EndsAtStop t bytes = (more : List ℕ) → read_length t (bytes ++ more) ≡ length bytes
+abbrev pub EndsAtStop : TicketFields → ℕ → List ℕ → Type 0
+EndsAtStop t most bytes = (more : List ℕ) → read_length t most (bytes ++ more) ≡ length bytes
 
 -- The stop isn't reached with these bytes: they are read with some of what comes after them.
-abbrev pub IsBeforeStop : TicketFields → List ℕ → Type 0
-IsBeforeStop t bytes = (more : List ℕ) → 0 < length more → length bytes < read_length t (bytes ++ more)
+abbrev pub IsBeforeStop : TicketFields → ℕ → List ℕ → Type 0
+IsBeforeStop t most bytes = (more : List ℕ) → 0 < length more → length bytes < read_length t most (bytes ++ more)
 
 -- After the reads that gave these bytes there was no read where they end at the stop, and else one that found the end.
-abbrev pub IsLastRead : TicketFields → List ℕ → List Read → Type 0
-IsLastRead t bytes [] = EndsAtStop t bytes
-IsLastRead t bytes (AtEnd ∷ []) = IsBeforeStop t bytes
-IsLastRead t bytes other = ⊥
+abbrev pub IsLastRead : TicketFields → ℕ → List ℕ → List Read → Type 0
+IsLastRead t most bytes [] = EndsAtStop t most bytes
+IsLastRead t most bytes (AtEnd ∷ []) = IsBeforeStop t most bytes
+IsLastRead t most bytes other = ⊥
 
 -- Exactly the bytes up to the stop were read, each read but one at the end giving some.
-pub record ReadsUpToStop (t : TicketFields) (source : Change SourceTold) : Type 0 where
+pub record ReadsUpToStop (t : TicketFields) (most : ℕ) (source : Change SourceTold) : Type 0 where
   pub last : List Read
   pub took : Took (bytes_read source) last source
-  pub ended : IsLastRead t (bytes_read source) last
+  pub ended : IsLastRead t most (bytes_read source) last
 
 -- A read failed, the last of all, before the stop was reached.
-pub record FailsBeforeStop (t : TicketFields) (source : Change SourceTold) : Type 0 where
+pub record FailsBeforeStop (t : TicketFields) (most : ℕ) (source : Change SourceTold) : Type 0 where
   pub took : Took (bytes_read source) (Failed ∷ []) source
-  pub before : IsBeforeStop t (bytes_read source)
+  pub before : IsBeforeStop t most (bytes_read source)
 
--- Of a source with these bytes left, exactly those up to the stop were taken, and the frames are those of all bytes.
-pub record LeavesRemainder (t : TicketFields) (bytes : List ℕ) (source : Change SourceTold) : Type 0 where
-  pub taken : bytes_read source ≡ take (read_length t bytes) bytes
-  pub left : source.new.left ≡ Some (drop (read_length t bytes) bytes)
-  pub same : vectors_of t (bytes_read source) ≡ vectors_of t bytes
+-- Of a source with these bytes left, exactly those up to the stop were taken, and the pieces read are those of all bytes.
+pub record LeavesRemainder (t : TicketFields) (most : ℕ) (bytes : List ℕ) (source : Change SourceTold) : Type 0 where
+  pub taken : bytes_read source ≡ take (read_length t most bytes) bytes
+  pub left : source.new.left ≡ Some (drop (read_length t most bytes) bytes)
+  pub same : pieces_read t most (bytes_read source) ≡ pieces_read t most bytes
 
 -- Fewer bytes than those up to the stop were taken, or all of them where there were no more.
-abbrev pub LeavesMore : TicketFields → List ℕ → Change SourceTold → Type 0
-LeavesMore t bytes source = (length (bytes_read source) < read_length t bytes) ⊎ (source.new.left ≡ Some [])
+abbrev pub LeavesMore : TicketFields → ℕ → List ℕ → Change SourceTold → Type 0
+LeavesMore t most bytes source = (length (bytes_read source) < read_length t most bytes) ⊎ (source.new.left ≡ Some [])
 
 -- ---- the report
 
 -- The report of a capture: what became of each generation where the file was written or some generation has no answer,
 -- and then the status.
-abbrev pub report_of : TicketFields → List ℕ → ℕ → List ℕ
-report_of t bytes status =
-    (if (status == 0) || (status == 3) then generations_text t (vectors_of t bytes) else []) ++ status_line status
+abbrev pub report_of : TicketFields → ℕ → List ℕ → ℕ → List ℕ
+report_of t most bytes status =
+    (if (status == 0) || (status == 3) then generations_text t (vectors_of t most bytes) else []) ++ status_line status
 
 -- The report's sink was given the report, which tells the status of the run, or 0 where that is 5 since the report
 -- failed. It tells 5 exactly where the file's sink failed.
-pub record IsReported (t : TicketFields) (bytes : List ℕ) (status : ℕ) (file report : Change SinkTold) : Type 0 where
+pub record IsReported (t : TicketFields) (most : ℕ) (bytes : List ℕ) (status : ℕ) (file report : Change SinkTold) : Type 0 where
   pub told : ℕ
   pub same_or_five : (status ≡ told) ⊎ ((told ≡ 0) × (status ≡ 5))
   pub five : CanCount file.old.faults → MayTouchFile status → ((told ≡ 5) ↔ SinkFailed file)
-  pub given : WasGiven (report_of t bytes told) report
+  pub given : WasGiven (report_of t most bytes told) report
 
 -- ---- the status
 
