@@ -1,24 +1,25 @@
 -- The report by what a receiver holds, and a run as a whole.
 use Rattle.std.proofs.Common.{◌≡◌, ◌⊎◌, inl, inr, ℕ, ◌<◌, Bool, List, [], ◌∷◌, ◌++◌, length, get_or, Option, None, is_some, refl, ap, sym, subst, ◌∙◌, arith}
-use Rattle.std.specs.Prelude.{map, codes, if◌then◌else◌, ◌||◌, ◌==◌, ◌↔◌, IfSome, IsSomeAnd}
+use Rattle.std.specs.Prelude.{map, codes, sum_by, ◌↔◌, IfSome, IsSomeAnd}
+use Rattle.std.proofs.lemmas.List.{append-nil}
 use Rattle.std.specs.List.{zip, range_with_len}
 use Rattle.std.proofs.lemmas.List.{same_lists, length-map, get_or-map}
 use Rattle.std.proofs.lemmas.List.FromFn.{length-map-range_with_len, get_or-map-range_with_len}
 use Rattle.std.proofs.lemmas.Slice.Zip.{get_or-zip, length-zip}
 use Rattle.kk_rows.specs.Span.{dimension}
 use Rattle.kk_rows.specs.Space.{Space}
-use Rattle.kk_rows.proofs.Dimensions.{dimension-same_span, in_span_innovative}
 use Rattle.kk_code.specs.Decoding.{answer}
 use Rattle.kk_code.specs.Codeword.{width}
 use Rattle.kk_code.specs.Ticket.{TicketFields, generations}
 use Rattle.kk_code.specs.TicketText.{spelled}
 use Rattle.kk_frame.specs.declared.gate_count.GateCount.{GateCount}
-use Rattle.kk_top.specs.Answers.{rows_of, frozen, answers, file_of, generations_text}
-use Rattle.kk_top.specs.Command.{MayTouchFile, status_line}
-use Rattle.kk_top.specs.Report.{count_line, generation_lines, outcome, outcomes, outcome_report}
+use Rattle.kk_top.specs.Answers.{frozen, answers, file_of, outcomes_of, totals_of}
+use Rattle.kk_top.specs.Command.{MayTouchFile}
+use Rattle.kk_top.specs.Report.{status_line, count_line, gate_line, gate_lines_from, generation_lines, inserts_line, unfrozen_totals, received_lines, outcome, outcomes, outcome_lines, outcome_report}
+use Rattle.kk_top.proofs.Counted.{rank_is, ranks-spanned}
 use Rattle.kk_top.specs.Delivery.{IsDelivered}
-use Rattle.kk_top.specs.Spaces.{Spans, AreSpanned, AreReceived, no_space}
-use Rattle.kk_top.specs.commands.Unpack.{IsUnpackCommand, NamesTicket, vectors_of, unpacked, ReadsUpToStop, FailsBeforeStop, LeavesRemainder, LeavesMore, report_of, IsReported}
+use Rattle.kk_top.specs.Spaces.{AreSpanned, AreReceived, no_space}
+use Rattle.kk_top.specs.commands.Unpack.{IsUnpackCommand, NamesTicket, vectors_of, counts_of, unpacked, ReadsUpToStop, FailsBeforeStop, LeavesRemainder, LeavesMore, report_of, IsReported}
 use Rattle.kk_outside.specs.Change.{Change}
 use Rattle.kk_outside.specs.Source.{SourceTold, bytes_read}
 use Rattle.kk_outside.specs.Sink.{SinkTold, WasGiven}
@@ -26,10 +27,6 @@ use Rattle.kk_outside.specs.Sink.{SinkTold, WasGiven}
 -- what the report says of a generation
 abbrev told_of : TicketFields → List (ℕ × ℕ) → ℕ → ℕ × Bool
 told_of t vectors g = (dimension (frozen vectors g), is_some (answer t.code (frozen vectors g)))
-
-rank_is : (w : ℕ) (space : Space) (vectors : List (ℕ × ℕ)) (g : ℕ) → Spans w space (rows_of g vectors) → dimension space.rows ≡ dimension (frozen vectors g)
-rank_is w space vectors g spans =
-    dimension-same_span space.rows (frozen vectors g) (λ x. spans.same x ∙ sym (in_span_innovative (rows_of g vectors) x))
 
 outcomes-spanned : (t : TicketFields) (spaces : List Space) (found : List (Option (List ℕ))) (vectors : List (ℕ × ℕ)) → AreSpanned t spaces vectors → found ≡ answers t vectors → outcomes spaces found ≡ map (told_of t vectors) (range_with_len 0 (generations t))
 outcomes-spanned t spaces found vectors spanned is_found =
@@ -48,15 +45,35 @@ outcomes-spanned t spaces found vectors spanned is_found =
     ∙ ap (λ (o : Option (List ℕ)). (dimension (frozen vectors g), is_some o)) its_answer
     ∙ sym (get_or-map-range_with_len (told_of t vectors) 0 (generations t) g g d below (omega arith)))
 
-lines_are : (t : TicketFields) (spaces : List Space) (found : List (Option (List ℕ))) (vectors : List (ℕ × ℕ)) → AreSpanned t spaces vectors → found ≡ answers t vectors → count_line (length spaces) ++ generation_lines (outcomes spaces found) ≡ generations_text t vectors
-lines_are t spaces found vectors spanned is_found =
-    ap (λ (n : ℕ). count_line n ++ generation_lines (outcomes spaces found)) spanned.count
-    ∙ ap (λ (l : List (ℕ × Bool)). count_line (generations t) ++ generation_lines l) (outcomes-spanned t spaces found vectors spanned is_found)
+-- the lines by the spaces and answers are those of the capture
+lines_are : (t : TicketFields) (most : ℕ) (source : Change SourceTold) (counted : GateCount) (spaces : List Space) (found : List (Option (List ℕ))) → AreReceived t most source counted spaces → found ≡ answers t (vectors_of t most (bytes_read source)) → outcome_lines counted spaces found ≡ received_lines (counts_of t most (bytes_read source) ∷ []) (outcomes_of t (vectors_of t most (bytes_read source))) (totals_of t (vectors_of t most (bytes_read source)))
+lines_are t most source counted spaces found received answered =
+    let bytes = bytes_read source in
+    let vectors = vectors_of t most bytes in
+    let counts = counts_of t most bytes in
+    let told = outcomes_of t vectors in
+    let many : length spaces ≡ length told = received.spanned.count ∙ sym (length-map-range_with_len (told_of t vectors) 0 (generations t)) in
+    let gate : gate_line 0 counted ≡ gate_lines_from 0 (counts ∷ []) = ap (gate_line 0) received.counts ∙ sym (append-nil (gate_line 0 counts)) in
+    let lines = outcomes-spanned t spaces found vectors received.spanned answered in
+    let inserts : unfrozen_totals counted.frames (sum_by (λ space. dimension space.rows) spaces) ≡ totals_of t vectors =
+    ap (λ (c : GateCount). unfrozen_totals c.frames (sum_by (λ (space : Space). dimension space.rows) spaces)) received.counts
+    ∙ ap (unfrozen_totals (length vectors)) (ranks-spanned t spaces vectors received.spanned) in
+    ap (λ n. count_line n ++ gate_line 0 counted ++ generation_lines (outcomes spaces found) ++ inserts_line (unfrozen_totals counted.frames (sum_by (λ (space : Space). dimension space.rows) spaces))) many
+    ∙ ap (λ l. count_line (length told) ++ l ++ generation_lines (outcomes spaces found) ++ inserts_line (unfrozen_totals counted.frames (sum_by (λ (space : Space). dimension space.rows) spaces))) gate
+    ∙ ap (λ l. count_line (length told) ++ gate_lines_from 0 (counts ∷ []) ++ generation_lines l ++ inserts_line (unfrozen_totals counted.frames (sum_by (λ (space : Space). dimension space.rows) spaces))) lines
+    ∙ ap (λ totals. count_line (length told) ++ gate_lines_from 0 (counts ∷ []) ++ generation_lines told ++ inserts_line totals) inserts
 
 -- the report by the spaces and answers is that of the capture
-outcome_report-received : (t : TicketFields) (most status : ℕ) (source : Change SourceTold) (counted : GateCount) (spaces : List Space) (found : List (Option (List ℕ))) → AreReceived t most source counted spaces → found ≡ answers t (vectors_of t most (bytes_read source)) → outcome_report status spaces found ≡ report_of t most (bytes_read source) status
-outcome_report-received t most status source counted spaces found received answered =
-    ap (λ (l : List ℕ). (if (status == 0) || (status == 3) then l else []) ++ status_line status) (lines_are t spaces found (vectors_of t most (bytes_read source)) received.spanned answered)
+outcome_report-received : (t : TicketFields) (most status : ℕ) (source : Change SourceTold) (counted : GateCount) (spaces : List Space) (found : List (Option (List ℕ))) → AreReceived t most source counted spaces → found ≡ answers t (vectors_of t most (bytes_read source)) → (status ≡ 3) ⊎ MayTouchFile status → outcome_report status counted spaces found ≡ report_of t most (bytes_read source) status
+outcome_report-received t most status source counted spaces found received answered (inl three) =
+    let P : ℕ → Type 0 = λ s. outcome_report s counted spaces found ≡ report_of t most (bytes_read source) s in
+    subst P (sym three) (ap (λ l. l ++ status_line 3) (lines_are t most source counted spaces found received answered))
+outcome_report-received t most status source counted spaces found received answered (inr (inl zero_)) =
+    let P : ℕ → Type 0 = λ s. outcome_report s counted spaces found ≡ report_of t most (bytes_read source) s in
+    subst P (sym zero_) (ap (λ l. l ++ status_line 0) (lines_are t most source counted spaces found received answered))
+outcome_report-received t most status source counted spaces found received answered (inr (inr five)) =
+    let P : ℕ → Type 0 = λ s. outcome_report s counted spaces found ≡ report_of t most (bytes_read source) s in
+    subst P (sym five) refl
 
 -- an answer for each generation
 pub one_each : (t : TicketFields) (found : List (Option (List ℕ))) (vectors : List (ℕ × ℕ)) → found ≡ answers t vectors → length found ≡ generations t
@@ -117,7 +134,7 @@ pub record IsRun (t : TicketFields) (most status : ℕ) (source : Change SourceT
   pub reported : IsReported t most (bytes_read source) status file report
 
 -- the source was read up to the stop
-pub IsRun-received : (t : TicketFields) (most told status : ℕ) (source : Change SourceTold) (file report : Change SinkTold) (counted : GateCount) (spaces : List Space) (found : List (Option (List ℕ))) → AreReceived t most source counted spaces → found ≡ answers t (vectors_of t most (bytes_read source)) → IsDelivered (file_of t found) told file → WasGiven (outcome_report told spaces found) report → IsStatusOf told status → IsRun t most status source file report
+pub IsRun-received : (t : TicketFields) (most told status : ℕ) (source : Change SourceTold) (file report : Change SinkTold) (counted : GateCount) (spaces : List Space) (found : List (Option (List ℕ))) → AreReceived t most source counted spaces → found ≡ answers t (vectors_of t most (bytes_read source)) → IsDelivered (file_of t found) told file → WasGiven (outcome_report told counted spaces found) report → IsStatusOf told status → IsRun t most status source file report
 IsRun-received t most told status source file report counted spaces found received answered delivered given same =
     let three = at_three told status same in
     let four : status ≡ 4 → ⊥ = λ e. not_four told delivered.no_other ((at_four told status same).0 e) in
@@ -133,6 +150,6 @@ IsRun-received t most told status source file report counted spaces found receiv
         told = told;
         same_or_five = same;
         five = λ can is. delivered.output_fault can (touched_back told status same is);
-        given = subst (λ l. WasGiven l report) (outcome_report-received t most told source counted spaces found received answered) given;
+        given = subst (λ l. WasGiven l report) (outcome_report-received t most told source counted spaces found received answered delivered.no_other) given;
       };
     }

@@ -1,47 +1,14 @@
--- One text written after another, and the lines of the generations so far.
-use Rattle.std.proofs.Common.{◌≡◌, ℕ, ◌+◌, ◌<◌, Bool, List, [], ◌∷◌, ◌++◌, length, take, drop, get_or, Option, Result, Ok, Err, ap, sym, ◌∙◌, arith, map, append_assoc, length-append, length-take, take-append-drop, add-one}
-use Rattle.std.proofs.lemmas.List.{take-append-le, append-nil, length-map}
+-- The lines of the generations so far.
+use Rattle.std.proofs.Common.{◌≡◌, ℕ, ◌+◌, ◌<◌, Bool, List, [], ◌∷◌, ◌++◌, length, take, drop, get_or, Err, ap, sym, subst, ◌∙◌, arith, map, append_assoc, length-take, take-append-drop, add-one}
+use Rattle.std.proofs.lemmas.List.{append-nil, length-map}
 use Rattle.std.proofs.lemmas.List.FromFn.{length-enumerate_from, get_or-enumerate_from}
 use Rattle.std.proofs.Math.ListN.{get_or-map}
 use Rattle.std.specs.List.{enumerate_from}
-use Rattle.std.proofs.Math.Seq.{take-append-add, take-suc}
-use Rattle.std.specs.Io.KnownBytes.{append_known}
-use Rattle.kk_outside.proofs.Known.{append_known-append_known}
-use Rattle.kk_outside.specs.Change.{change}
-use Rattle.kk_outside.specs.Sink.{SinkTold, WritesAllTo}
+use Rattle.std.proofs.Math.Seq.{take-suc}
+use Rattle.kk_outside.specs.Sink.{SinkTold}
+use Rattle.kk_top.specs.Block.{Adds}
 use Rattle.kk_top.specs.Report.{generation_line, generation_lines_from, generation_lines}
-
--- one text is out, and then another was written or failed: this writes both
-pub WritesAllTo-append : {T U E : Type 0} {x : T} (before middle after : SinkTold) (result : Result U E) (first second : List ℕ) → WritesAllTo {E = E} (change before middle) (Ok x) first → WritesAllTo (change middle after) result second → WritesAllTo (change before after) result (first ++ second)
-WritesAllTo-append before middle after (Ok y) first second one two = record {
-  all = two.all ∙ ap (λ (o : Option (List ℕ)). append_known o second) one.all ∙ append_known-append_known before.written first second;
-  part = tt;
-}
-WritesAllTo-append before middle after (Err e) first second one two =
-    let n = two.part.0 in
-    record {
-      all = tt;
-      part = (
-        length first + n,
-        omega (arith, two.part.1, length-append first second),
-        two.part.2
-            ∙ ap (λ (o : Option (List ℕ)). append_known o (take n second)) one.all
-            ∙ append_known-append_known before.written first (take n second)
-            ∙ ap (λ (l : List ℕ). append_known before.written l) (sym (take-append-add first second n)),
-      );
-    }
-
--- the first of two texts was not written whole: this is a failed write of both
-pub WritesAllTo-stopped : {T U E : Type 0} {e : E} (before after : SinkTold) (first second : List ℕ) → WritesAllTo {T = T} (change before after) (Err e) first → WritesAllTo {T = U} (change before after) (Err e) (first ++ second)
-WritesAllTo-stopped before after first second failed = record {
-  all = tt;
-  part = (
-    failed.part.0,
-    omega (arith, failed.part.1, length-append first second),
-    failed.part.2
-        ∙ ap (λ (l : List ℕ). append_known before.written l) (sym (take-append-le failed.part.0 first second (omega (arith, failed.part.1)))),
-  );
-}
+use Rattle.kk_top.proofs.Blocks.{Added, Added-after, Adds-after, Adds-stopped}
 
 -- the lines of some generations and of those behind them
 pub generation_lines_from-append : (first : ℕ) (xs ys : List (ℕ × Bool)) → generation_lines_from first (xs ++ ys) ≡ generation_lines_from first xs ++ generation_lines_from (first + length xs) ys
@@ -65,21 +32,18 @@ pub generation_lines-take_drop : (all : List (ℕ × Bool)) (n : ℕ) → genera
 generation_lines-take_drop all n =
     ap generation_lines (sym (take-append-drop n all)) ∙ generation_lines_from-append 0 (take n all) (drop n all)
 
--- The lines of the first i generations are out. Then that of generation i is written,
-pub generation_lines-written : {T E : Type 0} {y : T} (start now after : SinkTold) (all : List (ℕ × Bool)) (i : ℕ) (x : ℕ × Bool) → i < length all → x ≡ get_or all i x → now.written ≡ append_known start.written (generation_lines (take i all)) → WritesAllTo {E = E} (change now after) (Ok y) (generation_line i x.0 x.1) → after.written ≡ append_known start.written (generation_lines (take (i + 1) all))
-generation_lines-written start now after all i x within at so_far line =
-    line.all
-    ∙ ap (λ (o : Option (List ℕ)). append_known o (generation_line i x.0 x.1)) so_far
-    ∙ append_known-append_known start.written (generation_lines (take i all)) (generation_line i x.0 x.1)
-    ∙ ap (λ (l : List ℕ). append_known start.written l) (sym (generation_lines-take_more all i x within at))
+-- The lines of the first i generations were added. Then that of generation i is,
+pub Added-line : (start now after : SinkTold) (held holding holds : List ℕ) (all : List (ℕ × Bool)) (i : ℕ) (x : ℕ × Bool) → i < length all → x ≡ get_or all i x → Added start now held holding (generation_lines (take i all)) → Added now after holding holds (generation_line i x.0 x.1) → Added start after held holds (generation_lines (take (i + 1) all))
+Added-line start now after held holding holds all i x within at so_far line =
+    subst (Added start after held holds) (sym (generation_lines-take_more all i x within at)) (Added-after start now after held holding holds (generation_lines (take i all)) (generation_line i x.0 x.1) so_far line)
 
--- or the write of it fails, and with it that of all lines.
-pub generation_lines-stopped : {T E : Type 0} {e : E} (start now after : SinkTold) (all : List (ℕ × Bool)) (i : ℕ) (x : ℕ × Bool) → i < length all → x ≡ get_or all i x → now.written ≡ append_known start.written (generation_lines (take i all)) → WritesAllTo {T = T} (change now after) (Err e) (generation_line i x.0 x.1) → WritesAllTo {T = T} (change start after) (Err e) (generation_lines all)
-generation_lines-stopped {T} {E} {e} start now after all i x within at so_far line =
-    let so_far_all : WritesAllTo {T = Unit {0}} {E = E} (change start now) (Ok (tt {0})) (generation_lines (take i all)) = record { all = so_far; part = tt } in
-    let both : WritesAllTo {T = T} (change start after) (Err e) (generation_lines (take i all) ++ generation_line i x.0 x.1) = WritesAllTo-append start now after (Err e) _ _ so_far_all line in
-    let front : WritesAllTo {T = T} (change start after) (Err e) (generation_lines (take (i + 1) all)) = rw (generation_lines-take_more all i x within at) both in
-    rw (generation_lines-take_drop all (i + 1)) (WritesAllTo-stopped start after _ _ front)
+-- or the sink fails, and with it all lines do.
+pub Adds-line_failed : {T U E : Type 0} {d e : E} (start now after : SinkTold) (held holding holds : List ℕ) (all : List (ℕ × Bool)) (i : ℕ) (x : ℕ × Bool) → i < length all → x ≡ get_or all i x → Added start now held holding (generation_lines (take i all)) → Adds {T = T} now after holding holds (Err d) (generation_line i x.0 x.1) → Adds {T = U} start after held holds (Err e) (generation_lines all)
+Adds-line_failed {T} {U} {E} {d} {e} start now after held holding holds all i x within at so_far line =
+    let front = Adds-after start now after held holding holds (Err d) (generation_lines (take i all)) (generation_line i x.0 x.1) so_far line in
+    let more = generation_lines_from (0 + length (take (i + 1) all)) (drop (i + 1) all) in
+    let whole = ap (λ l. l ++ more) (sym (generation_lines-take_more all i x within at)) ∙ sym (generation_lines-take_drop all (i + 1)) in
+    subst (Adds start after held holds (Err e)) whole (Adds-stopped start after held holds (generation_lines (take i all) ++ generation_line i x.0 x.1) more front)
 
 -- what f makes of the item that a counted loop has at place i
 pub enumerate_turn : {X Y : Type 0} (f : X → Y) (xs : List X) (i : ℕ) (item : ℕ × X) → i < length (enumerate_from 0 xs) → item ≡ get_or (enumerate_from 0 xs) i item → (item.0 ≡ i) × (i < length (map f xs)) × (f item.1 ≡ get_or (map f xs) i (f item.1))

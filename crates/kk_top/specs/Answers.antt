@@ -1,5 +1,5 @@
 -- What the data frames that a receiver took decode to.
-use Rattle.std.specs.Prelude.{ℕ, ◌==◌, if◌then◌else◌, Option, List, [], ◌∷◌, ◌++◌, map, is_some}
+use Rattle.std.specs.Prelude.{ℕ, ◌==◌, Bool, if◌then◌else◌, Option, List, [], ◌∷◌, length, map, sum_by, is_some}
 use Rattle.std.specs.List.{range_with_len}
 use Rattle.std.specs.Option.{option_map}
 use Rattle.kk_rows.specs.Span.{innovative, dimension}
@@ -7,7 +7,8 @@ use Rattle.kk_code.specs.Decoding.{answer}
 use Rattle.kk_code.specs.Ticket.{TicketFields, generations}
 use Rattle.kk_assemble.specs.FileBits.{joined}
 use Rattle.kk_assemble.specs.Messages.{all_messages}
-use Rattle.kk_top.specs.Report.{count_line, generation_lines}
+use Rattle.kk_top.specs.declared.totals.Totals.{Totals}
+use Rattle.kk_top.specs.Report.{unfrozen_totals}
 
 -- the rows of generation g, in order
 unfoldable pub rows_of : ℕ → List (ℕ × ℕ) → List ℕ
@@ -30,9 +31,13 @@ file_of t found = option_map (joined t.code t.length) (all_messages found)
 abbrev pub file_text : TicketFields → List (ℕ × ℕ) → Option (List ℕ)
 file_text t vectors = file_of t (answers t vectors)
 
--- What the report says of the generations: how many there are, and of each the dimension of its space and whether it
--- has an answer.
-abbrev pub generations_text : TicketFields → List (ℕ × ℕ) → List ℕ
-generations_text t vectors =
-    count_line (generations t)
-    ++ generation_lines (map (λ g. (dimension (frozen vectors g), is_some (answer t.code (frozen vectors g)))) (range_with_len 0 (generations t)))
+-- of each generation the dimension of its space, and whether it has an answer
+abbrev pub outcomes_of : TicketFields → List (ℕ × ℕ) → List (ℕ × Bool)
+outcomes_of t vectors =
+    map (λ g. (dimension (frozen vectors g), is_some (answer t.code (frozen vectors g)))) (range_with_len 0 (generations t))
+
+-- How the inserts of the data frames are answered, all before any space is frozen: those that raise the dimension of a
+-- space are innovative.
+abbrev pub totals_of : TicketFields → List (ℕ × ℕ) → Totals
+totals_of t vectors =
+    unfrozen_totals (length vectors) (sum_by (λ g. dimension (frozen vectors g)) (range_with_len 0 (generations t)))

@@ -1,6 +1,8 @@
 pub mod Answers
+pub mod Block
 pub mod Command
 pub mod Delivery
+pub mod Refusal
 pub mod Report
 pub mod Spaces
 pub mod Status

@@ -1,14 +1,45 @@
 -- The text of a report: lines that each end with a line feed, of words and numbers that one space parts.
-use Rattle.std.specs.Prelude.{◌≡◌, ℕ, ◌+◌, ◌==◌, ◌||◌, Bool, true, false, if◌then◌else◌, List, [], ◌∷◌, ◌++◌, length, map, Option, is_some, refl, codes}
+use Rattle.std.specs.Prelude.{◌≡◌, ℕ, ◌+◌, ◌-◌, ◌==◌, Bool, true, false, if◌then◌else◌, List, [], ◌∷◌, ◌++◌, length, map, sum_by, Option, Some, None, is_some, refl, codes}
 use Rattle.std.specs.Fmt.{decimal, digits}
 use Rattle.std.specs.List.{zip}
 use Rattle.kk_rows.specs.Space.{Space}
 use Rattle.kk_rows.specs.Span.{dimension}
-use Rattle.kk_top.specs.Command.{status_line}
+use Rattle.kk_frame.specs.declared.gate_count.Ended.{Ended}
+use Rattle.kk_frame.specs.declared.gate_count.Ended.TheVariants.{End, Idle, Most, Fault, Over}
+use Rattle.kk_frame.specs.declared.gate_count.GateCount.{GateCount}
+use Rattle.kk_top.specs.declared.totals.Totals.{Totals}
+
+-- the last line of every report
+abbrev pub status_line : ℕ → List ℕ
+status_line status = codes "status " ++ decimal status ++ codes "\n"
 
 -- how many generations there are
 abbrev pub count_line : ℕ → List ℕ
 count_line count = codes "generations " ++ decimal count ++ codes "\n"
+
+-- why a gate has ended; nothing where it hasn't
+abbrev pub end_word : Option Ended → List ℕ
+end_word (Some End) = codes "end"
+end_word (Some Idle) = codes "idle"
+end_word (Some Most) = codes "most"
+end_word (Some Fault) = codes "fault"
+end_word (Some Over) = codes "over"
+end_word None = []
+
+-- a gate: its number, why it has ended, and its counts
+abbrev pub gate_line : ℕ → GateCount → List ℕ
+gate_line number counts =
+    codes "gate " ++ decimal number ++ codes " " ++ end_word counts.ended
+    ++ codes " datagrams " ++ decimal counts.datagrams ++ codes " frames " ++ decimal counts.frames
+    ++ codes " badlength " ++ decimal counts.refused.badlength ++ codes " magic " ++ decimal counts.refused.magic
+    ++ codes " version " ++ decimal counts.refused.version ++ codes " kind " ++ decimal counts.refused.kind
+    ++ codes " session " ++ decimal counts.refused.session ++ codes " generation " ++ decimal counts.refused.generation
+    ++ codes " row " ++ decimal counts.refused.row ++ codes " endrow " ++ decimal counts.refused.endrow ++ codes "\n"
+
+-- the lines of gates that are numbered from `first` on
+abbrev pub gate_lines_from : ℕ → List GateCount → List ℕ
+gate_lines_from first [] = []
+gate_lines_from first (counts ∷ others) = gate_line first counts ++ gate_lines_from (first + 1) others
 
 -- a generation: its number, the rank of its space, and whether it was decoded
 abbrev pub generation_line : ℕ → ℕ → Bool → List ℕ
@@ -26,6 +57,24 @@ generation_lines_from first (generation ∷ others) =
 abbrev pub generation_lines : List (ℕ × Bool) → List ℕ
 generation_lines generations = generation_lines_from 0 generations
 
+-- how the inserts were answered
+abbrev pub inserts_line : Totals → List ℕ
+inserts_line totals =
+    codes "inserts " ++ decimal totals.inserts ++ codes " innovative " ++ decimal totals.innovative
+    ++ codes " redundant " ++ decimal totals.redundant ++ codes " late " ++ decimal totals.late ++ codes "\n"
+
+-- of so many inserts so many were innovative, the others redundant, and none was late
+abbrev pub unfrozen_totals : ℕ → ℕ → Totals
+unfrozen_totals inserts innovative =
+    record { inserts = inserts; innovative = innovative; redundant = inserts - innovative; late = 0 }
+
+-- What a receiver tells of its gates, of its generations, each with its rank and whether it was decoded, and of its inserts.
+abbrev pub received_lines : List GateCount → List (ℕ × Bool) → Totals → List ℕ
+received_lines gates generations totals =
+    count_line (length generations) ++ gate_lines_from 0 gates ++ generation_lines generations ++ inserts_line totals
+
+-- ---- the same by the spaces and answers that a receiver with one gate holds
+
 -- the rank of a generation's space, and whether it has an answer
 abbrev pub outcome : Space × Option (List ℕ) → ℕ × Bool
 outcome generation = (dimension generation.0.rows, is_some generation.1)
@@ -34,16 +83,22 @@ outcome generation = (dimension generation.0.rows, is_some generation.1)
 abbrev pub outcomes : List Space → List (Option (List ℕ)) → List (ℕ × Bool)
 outcomes spaces answers = map outcome (zip spaces answers)
 
--- what a report says of the generations, by their spaces and answers: nothing but at 0 and 3
-abbrev pub outcome_lines : ℕ → List Space → List (Option (List ℕ)) → List ℕ
-outcome_lines status spaces answers =
-    if (status == 0) || (status == 3) then count_line (length spaces) ++ generation_lines (outcomes spaces answers) else []
+abbrev pub outcome_lines : GateCount → List Space → List (Option (List ℕ)) → List ℕ
+outcome_lines counts spaces answers =
+    count_line (length spaces) ++ gate_line 0 counts ++ generation_lines (outcomes spaces answers)
+    ++ inserts_line (unfrozen_totals counts.frames (sum_by (λ space. dimension space.rows) spaces))
 
--- and the whole report
-abbrev pub outcome_report : ℕ → List Space → List (Option (List ℕ)) → List ℕ
-outcome_report status spaces answers = outcome_lines status spaces answers ++ status_line status
+-- the report by them: the status alone where it is 5
+abbrev pub outcome_report : ℕ → GateCount → List Space → List (Option (List ℕ)) → List ℕ
+outcome_report status counts spaces answers = (if status == 5 then [] else outcome_lines counts spaces answers) ++ status_line status
+
+-- ---- worked
 
 -- two generations, the first decoded
 pub two_generations : count_line 2 ++ generation_lines ((2, true) ∷ (0, false) ∷ []) ≡ codes "generations 2\ngeneration 0 rank 2 decoded\ngeneration 1 rank 0 none\n"
 unfolding digits
 two_generations = refl
+
+pub three_inserts : inserts_line (unfrozen_totals 3 2) ≡ codes "inserts 3 innovative 2 redundant 1 late 0\n"
+unfolding digits
+three_inserts = refl

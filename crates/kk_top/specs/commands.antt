@@ -1,3 +1,2 @@
 pub mod Unpack
-pub mod UnpackWords
 pub mod UnpackExamples

@@ -1,15 +1,18 @@
 //! The calls of the commands: each does all that its command does, over the objects that it is handed.
 #![tactic(auto)]
 
+mod block;
 mod commands;
 mod delivery;
 mod lines;
 mod program;
 mod receive;
+mod refusal;
 mod report;
 mod status;
 #[cfg(test)]
 mod tests;
+mod totals;
 mod unpacking;
 
 pub use commands::run_unpack;

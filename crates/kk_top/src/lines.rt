@@ -1,67 +1,108 @@
-//! The lines of a report on the generations.
-ghost use Rattle.std.specs.Prelude.{◌≡◌, ◌++◌, length};
-ghost use Rattle.kk_outside.specs.Causes.{HasCause};
-ghost use Rattle.kk_outside.specs.Change.{change};
-ghost use Rattle.kk_outside.specs.Sink.{WritesAllTo};
-ghost use Rattle.kk_top.specs.Report.{count_line, generation_line, generation_lines, outcomes};
+//! The lines of a report.
+ghost use Rattle.std.specs.Prelude.{◌≡◌, ◌+◌, ◌≤◌, ◌++◌, length, decimal};
+ghost use Rattle.arrayvec.specs.ArrayString.{array_string_len};
+ghost use Rattle.kk_top.specs.Report.{status_line, count_line, end_word, gate_line, generation_line, inserts_line};
 
+use crate::totals::Totals;
 use arrayvec::ArrayString;
 use itoa::Buffer;
-use kk_code::Message;
-use kk_outside::{Failed, Sink, write_all};
-use kk_rows::RowSpace;
+use kk_frame::{Ended, GateCount};
 
-/// A line, with its line feed. The longest has 56 bytes.
-type Line = ArrayString<64>;
+/// A line of a name and a number or two. The longest has 56 bytes.
+pub(crate) type Line = ArrayString<64>;
 
-/// Writes how many generations there are, and then a line for each: its number, counted from 0, the rank of its space,
-/// and whether it has an answer. `answers` has one for each space. After `Failed` a part from the front of the text may
-/// be out, and nothing more is written.
-pub(crate) fn write_generations<P: Sink>(
-    report: &mut P,
-    spaces: &[RowSpace],
-    answers: &[Option<Message>],
-) -> Result<(), Failed>
-    requires { length answers.now ≡ length spaces.now }
-    ensures writes { WritesAllTo (change (P.told report.old) (P.told report.new)) result
-        (count_line (length spaces.now) ++ generation_lines (outcomes spaces.now answers.now)) }
-    ensures cause { HasCause (P.told report.old).faults (P.told report.new).faults result }
+/// A line of many numbers. The longest has 318 bytes.
+pub(crate) type LongLine = ArrayString<352>;
+
+/// A text as a line, without a line feed.
+pub(crate) fn line_of(text: &str) -> Line
+    requires { length text.now ≤ 48 }
+    ensures text { result.bytes ≡ text.now }
+    ensures short { array_string_len result ≤ 48 }
 {
-    write_all(report, count_line(spaces.len()).as_str().as_bytes())?;
-    write_generation_lines(report, spaces, answers)
-}
-
-/// Writes the lines of the generations.
-fn write_generation_lines<P: Sink>(
-    report: &mut P,
-    spaces: &[RowSpace],
-    answers: &[Option<Message>],
-) -> Result<(), Failed>
-    ensures writes { WritesAllTo (change (P.told report.old) (P.told report.new)) result
-        (generation_lines (outcomes spaces.now answers.now)) }
-    ensures cause { HasCause (P.told report.old).faults (P.told report.new).faults result }
-{
-    for (number, (space, answer)) in spaces.iter().zip(answers).enumerate() {
-        let line = generation_line(number, space.rank(), answer.is_some());
-        write_all(report, line.as_str().as_bytes())?;
-    }
-    Ok(())
-}
-
-/// The line that tells how many generations there are.
-fn count_line(count: usize) -> Line
-    ensures { result.bytes ≡ count_line count }
-{
-    let mut number = Buffer::new();
     let mut line = Line::new();
-    line.push_str("generations ");
-    line.push_str(number.format(count));
+    line.push_str(text);
+    line
+}
+
+/// A name and a number as a line, without a line feed.
+pub(crate) fn numbered(name: &str, number: u64) -> Line
+    requires { length name.now ≤ 28 }
+    ensures text { result.bytes ≡ name.now ++ decimal number }
+    ensures short { array_string_len result ≤ 48 }
+{
+    let mut digits = Buffer::new();
+    let mut line = Line::new();
+    line.push_str(name);
+    line.push_str(digits.format(number));
+    line
+}
+
+/// The last line of every report.
+pub(crate) fn status_line(status: u8) -> Line
+    ensures text { result.bytes ≡ status_line status }
+    ensures short { array_string_len result ≤ 11 }
+{
+    let mut digits = Buffer::new();
+    let mut line = Line::new();
+    line.push_str("status ");
+    line.push_str(digits.format(status));
     line.push_str("\n");
     line
 }
 
+/// The line that tells how many generations there are.
+pub(crate) fn count_line(count: usize) -> Line
+    ensures { result.bytes ≡ count_line count }
+{
+    let mut digits = Buffer::new();
+    let mut line = Line::new();
+    line.push_str("generations ");
+    line.push_str(digits.format(count));
+    line.push_str("\n");
+    line
+}
+
+/// The line of a gate: its number, why it has ended, and its counts.
+pub(crate) fn gate_line(number: u64, counts: &GateCount) -> LongLine
+    ensures { result.bytes ≡ gate_line number counts.now }
+{
+    let refused = &counts.refused;
+    let mut line = LongLine::new();
+    push_count(&mut line, "gate ", number);
+    line.push_str(" ");
+    line.push_str(end_word(counts.ended));
+    push_count(&mut line, " datagrams ", counts.datagrams);
+    push_count(&mut line, " frames ", counts.frames);
+    push_count(&mut line, " badlength ", refused.badlength);
+    push_count(&mut line, " magic ", refused.magic);
+    push_count(&mut line, " version ", refused.version);
+    push_count(&mut line, " kind ", refused.kind);
+    push_count(&mut line, " session ", refused.session);
+    push_count(&mut line, " generation ", refused.generation);
+    push_count(&mut line, " row ", refused.row);
+    push_count(&mut line, " endrow ", refused.endrow);
+    line.push_str("\n");
+    line
+}
+
+/// The word for why a gate has ended; none where it hasn't.
+fn end_word(ended: Option<Ended>) -> &'static str
+    ensures word { result.now ≡ end_word ended }
+    ensures short { length result.now ≤ 5 }
+{
+    match ended {
+        Some(Ended::End) => "end",
+        Some(Ended::Idle) => "idle",
+        Some(Ended::Most) => "most",
+        Some(Ended::Fault) => "fault",
+        Some(Ended::Over) => "over",
+        None => "",
+    }
+}
+
 /// The line of a generation.
-fn generation_line(number: usize, rank: u32, decoded: bool) -> Line
+pub(crate) fn generation_line(number: usize, rank: u32, decoded: bool) -> Line
     ensures { result.bytes ≡ generation_line number rank decoded }
 {
     let mut digits = Buffer::new();
@@ -74,27 +115,26 @@ fn generation_line(number: usize, rank: u32, decoded: bool) -> Line
     line
 }
 
-#[cfg(test)]
-mod tests {
-    use super::*;
-    use kk_outside::MemorySink;
-    use kk_rows::Row;
-    use std::test::Fail;
+/// The line that tells how the inserts were answered.
+pub(crate) fn inserts_line(totals: &Totals) -> LongLine
+    ensures { result.bytes ≡ inserts_line totals.now }
+{
+    let mut line = LongLine::new();
+    push_count(&mut line, "inserts ", totals.inserts);
+    push_count(&mut line, " innovative ", totals.innovative);
+    push_count(&mut line, " redundant ", totals.redundant);
+    push_count(&mut line, " late ", totals.late);
+    line.push_str("\n");
+    line
+}
 
-    #[test]
-    fn two_generations_are_told(rt: HostRuntime) -> Result<(), Fail> {
-        let alloc = rt.alloc();
-        let mut first = RowSpace::new(6);
-        let _ = first.insert(Row(13));
-        let _ = first.insert(Row(17));
-        let spaces = [first, RowSpace::new(6)];
-        let answers = [Some(Message::from_slice(&[5])), None];
-        let mut sink = MemorySink::new(alloc, 100, 100, Vec::new(alloc))?;
-        assert_eq!(rt; write_generations(&mut sink, &spaces, &answers), Ok(()));
-        assert_eq!(rt;
-            sink.bytes(),
-            b"generations 2\ngeneration 0 rank 2 decoded\ngeneration 1 rank 0 none\n".as_slice()
-        );
-        Ok(())
-    }
+/// Appends a name and a number.
+fn push_count(line: &mut LongLine, name: &str, count: u64)
+    requires { array_string_len line.old + length name.now + 20 ≤ 352 }
+    ensures bytes { line.new.bytes ≡ line.old.bytes ++ name.now ++ decimal count }
+    ensures len { array_string_len line.new ≤ array_string_len line.old + length name.now + 20 }
+{
+    let mut digits = Buffer::new();
+    line.push_str(name);
+    line.push_str(digits.format(count));
 }

@@ -5,8 +5,11 @@ ghost use Rattle.kk_outside.specs.Change.{change};
 ghost use Rattle.kk_outside.specs.Source.{SourceFailed, bytes_read};
 ghost use Rattle.kk_outside.specs.Sink.{SinkFailed, WasGiven};
 ghost use Rattle.kk_code.specs.Ticket.{TicketFields};
-ghost use Rattle.kk_top.specs.Command.{texts, IsRefusal, MayTouchFile, status_line};
-ghost use Rattle.kk_top.specs.commands.Unpack.{IsUnpackCommand, NamesNoTicket, UnpacksUnder, unpacked, ReadsUpToStop, FailsBeforeStop, LeavesRemainder, LeavesMore, IsReported, IsUnpackStatus};
+ghost use Rattle.kk_top.specs.Command.{texts, EndedAtOnce, MayTouchFile};
+ghost use Rattle.kk_top.specs.Refusal.{status_of, refusal_text};
+ghost use Rattle.kk_top.specs.declared.refusal.Refusal.{Refusal};
+ghost use Rattle.kk_code.specs.declared.fault.TicketFault.{TicketFault};
+ghost use Rattle.kk_top.specs.commands.Unpack.{IsRefusedFor, UnpacksUnder, unpacked, ReadsUpToStop, FailsBeforeStop, LeavesRemainder, LeavesMore, IsReported, IsUnpackStatus};
 
 use crate::run_unpack;
 use kk_outside::{Sink, Source};
@@ -25,8 +28,8 @@ pub fn run<R, S: Source, K: Sink, P: Sink>(
     report: &mut P,
 ) -> u8
     // Which status comes: 8 is want of memory, and 0 comes where no other status does.
-    ensures words_refused { (result ≡ 1) ↔ ((text : List ℕ) → IsUnpackCommand (texts words.now) text → ⊥) }
-    ensures ticket_refused { (result ≡ 2) ↔ NamesNoTicket (texts words.now) }
+    ensures words_refused { (result ≡ 1) ↔ IsRefusedFor (texts words.now) Refusal.Words }
+    ensures ticket_refused { (result ≡ 2) ↔ ((fault : TicketFault) × IsRefusedFor (texts words.now) (Refusal.Ticket fault)) }
     ensures not_decoded { (t : TicketFields) (most : ℕ) → UnpacksUnder t most (texts words.now) result → (result ≡ 4 → ⊥)
         → ((result ≡ 3) ↔ (unpacked t most (bytes_read (change (S.told source.old) (S.told source.new))) ≡ None)) }
     ensures input_fault { CanCount (S.told source.old).faults
@@ -36,7 +39,7 @@ pub fn run<R, S: Source, K: Sink, P: Sink>(
     ensures no_other_status { IsUnpackStatus result }
 
     // What was read: nothing after a refusal, else exactly the bytes up to the stop, unless a read failed before it.
-    ensures unread { IsRefusal result → source.new ≡ source.old }
+    ensures unread { EndedAtOnce result → source.new ≡ source.old }
     ensures read_to_stop { (t : TicketFields) (most : ℕ) → UnpacksUnder t most (texts words.now) result → (result ≡ 4 → ⊥)
         → ReadsUpToStop t most (change (S.told source.old) (S.told source.new)) }
     ensures failed_before_stop { (t : TicketFields) (most : ℕ) → UnpacksUnder t most (texts words.now) result → result ≡ 4
@@ -57,7 +60,8 @@ pub fn run<R, S: Source, K: Sink, P: Sink>(
         (λ text. WasGiven text (change (K.told file.old) (K.told file.new))) }
 
     // What the report's sink holds.
-    ensures refused { IsRefusal result → WasGiven (status_line result) (change (P.told report.old) (P.told report.new)) }
+    ensures refused { EndedAtOnce result → (cause : Refusal) × IsRefusedFor (texts words.now) cause × (result ≡ status_of cause)
+        × WasGiven (refusal_text cause) (change (P.told report.old) (P.told report.new)) }
     ensures reported { (t : TicketFields) (most : ℕ) → UnpacksUnder t most (texts words.now) result
         → IsReported t most (bytes_read (change (S.told source.old) (S.told source.new))) result
         (change (K.told file.old) (K.told file.new)) (change (P.told report.old) (P.told report.new)) }

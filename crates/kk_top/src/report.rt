@@ -1,69 +1,116 @@
 //! The report of a run.
-ghost use Rattle.std.specs.Prelude.{◌≡◌, ◌↔◌, ◌⊎◌, length};
+ghost use Rattle.std.specs.Prelude.{◌≡◌, ◌↔◌, ◌⊎◌, ◌≤◌, ◌++◌, length, sum_by};
+ghost use Rattle.kk_rows.specs.Span.{dimension};
 ghost use Rattle.kk_outside.specs.Causes.{HasCause, CanCount};
 ghost use Rattle.kk_outside.specs.Change.{change};
 ghost use Rattle.kk_outside.specs.Sink.{SinkFailed, WasGiven, WritesAllTo};
+ghost use Rattle.kk_top.specs.Block.{Adds};
+ghost use Rattle.kk_top.specs.Refusal.{status_of, refusal_text};
+ghost use Rattle.kk_top.specs.Report.{status_line, generation_lines, outcomes, outcome_lines, outcome_report};
 ghost use Rattle.kk_top.specs.Status.{code_of};
-ghost use Rattle.kk_top.specs.Report.{outcome_lines, outcome_report};
 
-use crate::lines::write_generations;
+use crate::block::Block;
+use crate::lines::{count_line, gate_line, generation_line, inserts_line, status_line};
+use crate::refusal::Refusal;
 use crate::status::Status;
+use crate::totals::Totals;
 use kk_code::Message;
+use kk_frame::GateCount;
 use kk_outside::{Failed, Sink, write_all};
 use kk_rows::RowSpace;
 
-/// Writes the report of a run: what became of each generation where the source was read and the file is written or some
-/// generation has no answer, and then the status. Answers the status of the run: a report that can't be written turns
-/// 0 into 5.
+/// Writes the report of a refusal, and answers its status, whether or not the report can be written.
+pub(crate) fn refuse<P: Sink>(refusal: Refusal, report: &mut P) -> u8
+    ensures status { result ≡ status_of refusal }
+    ensures given { WasGiven (refusal_text refusal) (change (P.told report.old) (P.told report.new)) }
+{
+    let _ = write_all(report, refusal.text().as_str().as_bytes());
+    refusal.status()
+}
+
+/// Writes the report of a receiver with one gate, and answers the status of the run: a report that can't be written turns
+/// 0 into 5. `answers` has one for each space.
 pub(crate) fn tell<P: Sink>(
     status: Status,
+    counts: &GateCount,
     spaces: &[RowSpace],
     answers: &[Option<Message>],
     report: &mut P,
 ) -> u8
-    requires { (code_of status ≡ 0) ⊎ (code_of status ≡ 3) → length answers.now ≡ length spaces.now }
-    ensures given { WasGiven (outcome_report (code_of status) spaces.now answers.now)
+    requires one_each { length answers.now ≡ length spaces.now }
+    requires innovative { sum_by (λ space. dimension space.rows) spaces.now ≤ counts.now.frames }
+    ensures given { WasGiven (outcome_report (code_of status) counts.now spaces.now answers.now)
         (change (P.told report.old) (P.told report.new)) }
     ensures same_or_five { (result ≡ code_of status) ⊎ ((code_of status ≡ 0) × (result ≡ 5)) }
     ensures five { CanCount (P.told report.old).faults → code_of status ≡ 0
         → ((result ≡ 5) ↔ SinkFailed (change (P.told report.old) (P.told report.new))) }
 {
-    match write_report(status, spaces, answers, report) {
+    match write_report(status, counts, spaces, answers, report) {
         Err(_) if status == Status::Done => Status::OutputFault.code(),
         _ => status.code(),
     }
 }
 
-/// Writes the report. After `Failed` nothing more is written.
+/// Writes what became of the run, and its status: the status alone where the file's sink failed. After `Failed` nothing more
+/// is written.
 fn write_report<P: Sink>(
     status: Status,
+    counts: &GateCount,
     spaces: &[RowSpace],
     answers: &[Option<Message>],
     report: &mut P,
 ) -> Result<(), Failed>
-    requires { (code_of status ≡ 0) ⊎ (code_of status ≡ 3) → length answers.now ≡ length spaces.now }
+    requires one_each { length answers.now ≡ length spaces.now }
+    requires innovative { sum_by (λ space. dimension space.rows) spaces.now ≤ counts.now.frames }
     ensures writes { WritesAllTo (change (P.told report.old) (P.told report.new)) result
-        (outcome_report (code_of status) spaces.now answers.now) }
+        (outcome_report (code_of status) counts.now spaces.now answers.now) }
     ensures cause { HasCause (P.told report.old).faults (P.told report.new).faults result }
 {
-    write_lines(status, spaces, answers, report)?;
-    write_all(report, status.line().as_bytes())
+    let last = status_line(status.code());
+    if status == Status::OutputFault {
+        return write_all(report, last.as_str().as_bytes());
+    }
+    let mut block = Block::new();
+    add_outcome(&mut block, report, counts, spaces, answers)?;
+    block.push(report, last.as_str().as_bytes())?;
+    block.flush(report)
 }
 
-/// Writes what the report says before the status.
-fn write_lines<P: Sink>(
-    status: Status,
+/// Adds how many generations there are, the line of the gate, those of the generations, and that of the inserts.
+fn add_outcome<P: Sink>(
+    block: &mut Block,
+    report: &mut P,
+    counts: &GateCount,
     spaces: &[RowSpace],
     answers: &[Option<Message>],
-    report: &mut P,
 ) -> Result<(), Failed>
-    requires { (code_of status ≡ 0) ⊎ (code_of status ≡ 3) → length answers.now ≡ length spaces.now }
-    ensures writes { WritesAllTo (change (P.told report.old) (P.told report.new)) result
-        (outcome_lines (code_of status) spaces.now answers.now) }
+    requires one_each { length answers.now ≡ length spaces.now }
+    requires innovative { sum_by (λ space. dimension space.rows) spaces.now ≤ counts.now.frames }
+    ensures adds { Adds (P.told report.old) (P.told report.new) block.old block.new result
+        (outcome_lines counts.now spaces.now answers.now) }
     ensures cause { HasCause (P.told report.old).faults (P.told report.new).faults result }
 {
-    match status {
-        Status::Done | Status::NotDecoded => write_generations(report, spaces, answers),
-        _ => Ok(()),
+    let totals = Totals::unfrozen(counts.frames, spaces);
+    block.push(report, count_line(spaces.len()).as_str().as_bytes())?;
+    block.push(report, gate_line(0, counts).as_str().as_bytes())?;
+    add_generations(block, report, spaces, answers)?;
+    block.push(report, inserts_line(&totals).as_str().as_bytes())
+}
+
+/// Adds a line for each generation: its number, counted from 0, the rank of its space, and whether it has an answer.
+fn add_generations<P: Sink>(
+    block: &mut Block,
+    report: &mut P,
+    spaces: &[RowSpace],
+    answers: &[Option<Message>],
+) -> Result<(), Failed>
+    ensures adds { Adds (P.told report.old) (P.told report.new) block.old block.new result
+        (generation_lines (outcomes spaces.now answers.now)) }
+    ensures cause { HasCause (P.told report.old).faults (P.told report.new).faults result }
+{
+    for (number, (space, answer)) in spaces.iter().zip(answers).enumerate() {
+        let line = generation_line(number, space.rank(), answer.is_some());
+        block.push(report, line.as_str().as_bytes())?;
     }
+    Ok(())
 }

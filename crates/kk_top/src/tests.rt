@@ -1,3 +1,5 @@
+ghost use Rattle.std.specs.Prelude.{◌<◌};
+
 use super::*;
 use kk_outside::{MemorySink, MemorySource, Source, StdSource};
 use std::alloc::{AllocError, Global};
@@ -24,11 +26,22 @@ const ONE_BYTE: &str = "kk1:00000001:3:0000000000000003:3:1:1";
 /// The ticket of a file of three bytes: eight generations of the same code.
 const THREE_BYTES: &str = "kk1:00000001:3:0000000000000003:3:1:3";
 
-const DONE: &[u8] =
-    b"generations 3\ngeneration 0 rank 3 decoded\ngeneration 1 rank 3 decoded\ngeneration 2 rank 3 decoded\nstatus 0\n";
+/// The report of the capture of the byte A0, and of its first 50 bytes: two frames, and half of the third.
+const DONE: &[u8] = b"generations 3\n\
+    gate 0 end datagrams 10 frames 9 badlength 0 magic 0 version 0 kind 0 session 0 generation 0 row 0 endrow 0\n\
+    generation 0 rank 3 decoded\n\
+    generation 1 rank 3 decoded\n\
+    generation 2 rank 3 decoded\n\
+    inserts 9 innovative 9 redundant 0 late 0\n\
+    status 0\n";
 
-const CUT: &[u8] =
-    b"generations 3\ngeneration 0 rank 2 decoded\ngeneration 1 rank 0 none\ngeneration 2 rank 0 none\nstatus 3\n";
+const CUT: &[u8] = b"generations 3\n\
+    gate 0 over datagrams 3 frames 2 badlength 1 magic 0 version 0 kind 0 session 0 generation 0 row 0 endrow 0\n\
+    generation 0 rank 2 decoded\n\
+    generation 1 rank 0 none\n\
+    generation 2 rank 0 none\n\
+    inserts 2 innovative 2 redundant 0 late 0\n\
+    status 3\n";
 
 /// The codewords of the symbols 0, 5 and 7 over GF(8) with the modulus X^3 + X + 1, for l = 3 and k = 1.
 const ZERO: [u8; 3] = [8, 16, 32];
@@ -42,6 +55,15 @@ fn frame(kind: u8, generation: u8, row: u8) -> [u8; 20] {
     [
         75, 75, 1, kind, 0, 0, 0, 1, 0, 0, 0, generation, 0, 0, 0, 0, 0, 0, 0, row,
     ]
+}
+
+/// A data frame of generation 0 with this byte at a place.
+fn altered(at: usize, byte: u8) -> [u8; 20]
+    requires { at < 20 }
+{
+    let mut bytes = frame(0, 0, 13);
+    bytes[at] = byte;
+    bytes
 }
 
 /// A capture of these rows, three for each generation, and an END frame.
@@ -133,8 +155,9 @@ fn unfailing<'a>(words: &'a [&'a str], bytes: &'a [u8]) -> Setting<'a> {
     }
 }
 
+/// The status, the file and the report of each capture.
 #[test]
-fn words_and_captures(rt: HostRuntime) -> Result<(), Fail> {
+fn captures(rt: HostRuntime) -> Result<(), Fail> {
     let alloc = rt.alloc();
     let whole = capture(alloc, &[FIVE, ZERO, ZERO])?;
     let one_erased_one_injected = [
@@ -145,50 +168,119 @@ fn words_and_captures(rt: HostRuntime) -> Result<(), Fail> {
     ];
     for (words, bytes, status, file, report) in [
         (
-            [].as_slice(),
+            ["unpack", "kk1:00000001:3:0000000000000003:3:1:0"].as_slice(),
             b"".as_slice(),
-            1,
+            0,
             b"".as_slice(),
-            b"status 1\n".as_slice(),
-        ),
-        (&["unpack"], b"", 1, b"", b"status 1\n"),
-        (&["frob", ONE_BYTE], b"", 1, b"", b"status 1\n"),
-        (&["unpack", ONE_BYTE, "more"], b"", 1, b"", b"status 1\n"),
-        (
-            &["unpack", "kk1:00000001:4:0000000000000005:3:1:1"],
-            b"",
-            2,
-            b"",
-            b"status 2\n",
+            b"generations 0\n\
+            gate 0 over datagrams 0 frames 0 badlength 0 magic 0 version 0 kind 0 session 0 generation 0 row 0 endrow 0\n\
+            inserts 0 innovative 0 redundant 0 late 0\n\
+            status 0\n"
+                .as_slice(),
         ),
         (&["unpack", ONE_BYTE], whole.as_slice(), 0, b"\xa0", DONE),
         (&["unpack", ONE_BYTE], front(&whole), 3, b"", CUT),
-        (
-            &["unpack", "kk1:00000001:3:0000000000000003:3:1:0"],
-            b"",
-            0,
-            b"",
-            b"generations 0\nstatus 0\n",
-        ),
         (
             &["unpack", "kk1:00000001:4:0000000000000003:4:2:1"],
             one_erased_one_injected.as_flattened(),
             0,
             b"\x11",
-            b"generations 1\ngeneration 0 rank 4 decoded\nstatus 0\n",
+            b"generations 1\n\
+            gate 0 over datagrams 4 frames 4 badlength 0 magic 0 version 0 kind 0 session 0 generation 0 row 0 endrow 0\n\
+            generation 0 rank 4 decoded\n\
+            inserts 4 innovative 4 redundant 0 late 0\n\
+            status 0\n",
         ),
         (
             &["unpack", "kk1:00000001:8:000000000000001b:8:2:1"],
             b"",
             3,
             b"",
-            b"generations 1\ngeneration 0 rank 0 none\nstatus 3\n",
+            b"generations 1\n\
+            gate 0 over datagrams 0 frames 0 badlength 0 magic 0 version 0 kind 0 session 0 generation 0 row 0 endrow 0\n\
+            generation 0 rank 0 none\n\
+            inserts 0 innovative 0 redundant 0 late 0\n\
+            status 3\n",
         ),
     ] {
         let outcome = run_in(&rt, &unfailing(words, bytes))?;
         assert_eq!(rt; outcome.status, status);
         assert_eq!(rt; outcome.file.bytes(), file);
         assert_eq!(rt; outcome.report.bytes(), report);
+    }
+    Ok(())
+}
+
+/// Each bad piece is counted by the first rule that it breaks. A row that came before, and a row 0, are redundant; what
+/// stands after END isn't counted.
+#[test]
+fn bad_pieces_and_redundant_rows(rt: HostRuntime) -> Result<(), Fail> {
+    let bytes = [
+        frame(0, 0, 13),
+        altered(0, 76),
+        altered(1, 107),
+        altered(2, 2),
+        frame(2, 0, 13),
+        altered(7, 2),
+        frame(0, 3, 13),
+        frame(0, 2, 64),
+        frame(1, 0, 1),
+        frame(0, 0, 17),
+        frame(0, 0, 28),
+        frame(0, 1, 0),
+        frame(0, 1, 8),
+        frame(1, 0, 0),
+        frame(0, 2, 8),
+    ];
+    let outcome = run_in(&rt, &unfailing(&["unpack", ONE_BYTE], bytes.as_flattened()))?;
+    assert_eq!(rt; outcome.status, 3);
+    assert_eq!(rt;
+        outcome.report.bytes(),
+        b"generations 3\n\
+        gate 0 end datagrams 14 frames 5 badlength 0 magic 2 version 1 kind 1 session 1 generation 1 row 1 endrow 1\n\
+        generation 0 rank 2 decoded\n\
+        generation 1 rank 1 decoded\n\
+        generation 2 rank 0 none\n\
+        inserts 5 innovative 3 redundant 2 late 0\n\
+        status 3\n"
+            .as_slice()
+    );
+    Ok(())
+}
+
+/// The status and the report of each refusal.
+#[test]
+fn refusals(rt: HostRuntime) -> Result<(), Fail> {
+    for (words, status, report) in [
+        ([].as_slice(), 1, "words\nstatus 1\n"),
+        (&["unpack"], 1, "words\nstatus 1\n"),
+        (&["frob", ONE_BYTE], 1, "words\nstatus 1\n"),
+        (&["unpack", ONE_BYTE, "more"], 1, "words\nstatus 1\n"),
+        (&["unpack", ""], 2, "ticket shape 0\nstatus 2\n"),
+        (
+            &["unpack", "kk1:00000001:8:000000000000001B:4:2:1"],
+            2,
+            "ticket shape 3\nstatus 2\n",
+        ),
+        (
+            &["unpack", "kk1:00000001:32:0000000000000009:32:16:1"],
+            2,
+            "ticket range 4\nstatus 2\n",
+        ),
+        (
+            &["unpack", "kk1:00000001:4:0000000000000005:3:1:1"],
+            2,
+            "ticket not irreducible\nstatus 2\n",
+        ),
+        (
+            &["unpack", "kk1:00000001:2:0000000000000003:1:1:4097"],
+            2,
+            "ticket too many generations 16388\nstatus 2\n",
+        ),
+    ] {
+        let outcome = run_in(&rt, &unfailing(words, b""))?;
+        assert_eq!(rt; outcome.status, status, "{report}");
+        assert_eq!(rt; outcome.report.bytes(), report.as_bytes());
     }
     Ok(())
 }
@@ -252,10 +344,10 @@ fn every_call_fails_in_turn(rt: HostRuntime) -> Result<(), Fail> {
             b"\xa0".as_slice(),
             b"".as_slice(),
         ),
-        (one.bytes, &[], 1, 5, b"\xa0", b"generations 3\n"),
+        (one.bytes, &[], 1, 5, b"\xa0", &DONE[..100]),
         (front(one.bytes), &[], 0, 3, b"", b""),
         (one.bytes, &[1], 0, 4, b"", b""),
-        (one.bytes, &[1], 1, 4, b"", b"status 4\n"),
+        (one.bytes, &[1], 1, 4, b"", b"input fault\nstatus 4\n"),
     ] {
         let fails = [write];
         let outcome = run_in(
@@ -274,7 +366,7 @@ fn every_call_fails_in_turn(rt: HostRuntime) -> Result<(), Fail> {
     Ok(())
 }
 
-/// There is memory for the largest ticket: 16,384 generations, each told by a line.
+/// There is memory for the largest ticket: 16,384 generations, each told by a line. The report goes out in 114 blocks.
 #[test]
 fn the_largest_ticket_without_input(rt: HostRuntime) -> Result<(), Fail> {
     let alloc = rt.alloc();
@@ -284,19 +376,21 @@ fn the_largest_ticket_without_input(rt: HostRuntime) -> Result<(), Fail> {
     )?;
     let mut source = MemorySource::new(Vec::new(alloc), 1, Vec::new(alloc));
     let mut file = MemorySink::new(alloc, 1, 1, Vec::new(alloc))?;
-    let mut report = MemorySink::new(alloc, 500_000, 100, Vec::new(alloc))?;
+    let mut report = MemorySink::new(alloc, 500_000, 4096, [114u64].to_vec(alloc)?)?;
     assert_eq!(rt;
         run(&rt, alloc, &words, &mut source, &mut file, &mut report),
         3
     );
     let text = report.bytes();
-    assert_eq!(rt; text.len(), 464_053);
+    assert_eq!(rt; text.len(), 464_203);
     assert_eq!(rt;
-        text.starts_with(b"generations 16384\ngeneration 0 rank 0 none\n"),
+        text.starts_with(b"generations 16384\ngate 0 over datagrams 0 frames 0 "),
         true
     );
     assert_eq!(rt;
-        text.ends_with(b"generation 16383 rank 0 none\nstatus 3\n"),
+        text.ends_with(
+            b"generation 16383 rank 0 none\ninserts 0 innovative 0 redundant 0 late 0\nstatus 3\n"
+        ),
         true
     );
     Ok(())

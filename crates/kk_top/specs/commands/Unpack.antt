@@ -5,7 +5,7 @@ use Rattle.kk_outside.specs.Change.{Change}
 use Rattle.kk_outside.specs.Source.{Read, AtEnd, Failed, SourceTold, Took, bytes_read}
 use Rattle.kk_outside.specs.Sink.{SinkTold, SinkFailed, WasGiven}
 use Rattle.kk_code.specs.Ticket.{TicketFields}
-use Rattle.kk_code.specs.TicketText.{IsTicketText}
+use Rattle.kk_code.specs.TicketText.{IsTicketText, IsFirstFault}
 use Rattle.kk_frame.specs.declared.frame.TheConstants.{FRAME_BYTES}
 use Rattle.kk_frame.specs.declared.limits.Limits.{Limits}
 use Rattle.kk_frame.specs.declared.gate_count.GateCount.{GateCount}
@@ -13,8 +13,12 @@ use Rattle.kk_frame.specs.Capture.{capture_events}
 use Rattle.kk_frame.specs.Events.{datagrams, stop, taken, counts}
 use Rattle.kk_outside.specs.declared.event.Event.{Event}
 use Rattle.kk_top.specs.declared.receive.TheConstants.{MAX_PIECES}
-use Rattle.kk_top.specs.Answers.{file_text, generations_text}
-use Rattle.kk_top.specs.Command.{IsRefusal, MayTouchFile, status_line}
+use Rattle.kk_top.specs.declared.refusal.Refusal.{Refusal}
+use Rattle.kk_top.specs.declared.refusal.Refusal.TheVariants.{Words, Ticket, Input, Memory}
+use Rattle.kk_top.specs.Answers.{file_text, outcomes_of, totals_of}
+use Rattle.kk_top.specs.Command.{EndedAtOnce, MayTouchFile}
+use Rattle.kk_top.specs.Refusal.{refusal_text}
+use Rattle.kk_top.specs.Report.{received_lines, status_line}
 
 -- ---- the words
 
@@ -26,15 +30,18 @@ IsUnpackCommand words text = words ≡ codes "unpack" ∷ text ∷ []
 abbrev pub NamesTicket : List (List ℕ) → TicketFields → Type 0
 NamesTicket words t = (text : List ℕ) × IsUnpackCommand words text × IsTicketText text t
 
--- the words are of that form, and the second is no ticket
-abbrev pub NamesNoTicket : List (List ℕ) → Type 0
-NamesNoTicket words = (text : List ℕ) × IsUnpackCommand words text × ((t : TicketFields) → IsTicketText text t → ⊥)
+-- why these words are refused before any call on the source
+abbrev pub IsRefusedFor : List (List ℕ) → Refusal → Type 0
+IsRefusedFor words Words = (text : List ℕ) → IsUnpackCommand words text → ⊥
+IsRefusedFor words (Ticket fault) = (text : List ℕ) × IsUnpackCommand words text × IsFirstFault text fault
+IsRefusedFor words Input = ⊥
+IsRefusedFor words Memory = Unit {0}
 
 -- A run with these words and this status unpacked under this ticket, with at most so many pieces: it wasn't refused.
 pub record UnpacksUnder (t : TicketFields) (most : ℕ) (words : List (List ℕ)) (status : ℕ) : Type 0 where
   pub named : NamesTicket words t
   pub pieces : most ≡ MAX_PIECES
-  pub accepted : IsRefusal status → ⊥
+  pub accepted : EndedAtOnce status → ⊥
 
 -- ---- the capture
 
@@ -103,11 +110,14 @@ LeavesMore t most bytes source = (length (bytes_read source) < read_length t mos
 
 -- ---- the report
 
--- The report of a capture: what became of each generation where the file was written or some generation has no answer,
--- and then the status.
+-- The report of a capture: what became of the gate and of each generation where the file was written or some generation has
+-- no answer; the fault of the source; or the status alone, where the file's sink failed.
 abbrev pub report_of : TicketFields → ℕ → List ℕ → ℕ → List ℕ
 report_of t most bytes status =
-    (if (status == 0) || (status == 3) then generations_text t (vectors_of t most bytes) else []) ++ status_line status
+    if (status == 0) || (status == 3) then
+    received_lines (counts_of t most bytes ∷ []) (outcomes_of t (vectors_of t most bytes)) (totals_of t (vectors_of t most bytes))
+    ++ status_line status
+    else (if status == 4 then refusal_text Input else status_line status)
 
 -- The report's sink was given the report, which tells the status of the run, or 0 where that is 5 since the report
 -- failed. It tells 5 exactly where the file's sink failed.
@@ -121,4 +131,4 @@ pub record IsReported (t : TicketFields) (most : ℕ) (bytes : List ℕ) (status
 
 -- the statuses of `unpack`
 abbrev pub IsUnpackStatus : ℕ → Type 0
-IsUnpackStatus status = IsRefusal status ⊎ ((status ≡ 3) ⊎ ((status ≡ 4) ⊎ MayTouchFile status))
+IsUnpackStatus status = EndedAtOnce status ⊎ ((status ≡ 3) ⊎ ((status ≡ 4) ⊎ MayTouchFile status))

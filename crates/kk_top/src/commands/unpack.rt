@@ -1,17 +1,19 @@
 //! `unpack`: a capture of frames comes in, and the file goes out.
-ghost use Rattle.std.specs.Prelude.{◌≡◌, ◌↔◌, ◌⊎◌, ℕ, List, [], Some, None, IfSome, IsSomeAnd, IfOk, IfErr};
+ghost use Rattle.std.specs.Prelude.{◌≡◌, ◌≢◌, ◌↔◌, ◌⊎◌, ℕ, List, [], Some, None, IfSome, IsSomeAnd, IfOk, IfErr};
 ghost use Rattle.kk_outside.specs.Causes.{CanCount};
 ghost use Rattle.kk_outside.specs.Change.{change};
 ghost use Rattle.kk_outside.specs.Source.{SourceFailed, bytes_read};
 ghost use Rattle.kk_outside.specs.Sink.{SinkFailed, WasGiven};
 ghost use Rattle.kk_code.specs.Ticket.{TicketFields};
-ghost use Rattle.kk_top.specs.Command.{texts, IsRefusal, MayTouchFile, status_line};
-ghost use Rattle.kk_top.specs.commands.Unpack.{IsUnpackCommand, NamesTicket, NamesNoTicket, UnpacksUnder, unpacked, ReadsUpToStop, FailsBeforeStop, LeavesRemainder, LeavesMore, IsReported, IsUnpackStatus};
-ghost use Rattle.kk_top.specs.commands.UnpackWords.{IsTicketRefusal};
+ghost use Rattle.kk_top.specs.Command.{texts, EndedAtOnce, MayTouchFile};
+ghost use Rattle.kk_top.specs.Refusal.{status_of, refusal_text};
+ghost use Rattle.kk_top.specs.declared.refusal.Refusal.{Refusal};
+ghost use Rattle.kk_code.specs.declared.fault.TicketFault.{TicketFault};
+ghost use Rattle.kk_top.specs.commands.Unpack.{NamesTicket, IsRefusedFor, UnpacksUnder, unpacked, ReadsUpToStop, FailsBeforeStop, LeavesRemainder, LeavesMore, IsReported, IsUnpackStatus};
 
 use crate::receive::MAX_PIECES;
-use crate::report::tell;
-use crate::status::Status;
+use crate::refusal::Refusal;
+use crate::report::{refuse, tell};
 use crate::unpacking::Unpacking;
 use kk_code::Ticket;
 use kk_outside::{Sink, Source};
@@ -30,8 +32,8 @@ pub fn run_unpack<S: Source, K: Sink, P: Sink>(
     report: &mut P,
 ) -> u8
     // Which status comes: 8 is want of memory, and 0 comes where no other status does.
-    ensures words_refused { (result ≡ 1) ↔ ((text : List ℕ) → IsUnpackCommand (texts words.now) text → ⊥) }
-    ensures ticket_refused { (result ≡ 2) ↔ NamesNoTicket (texts words.now) }
+    ensures words_refused { (result ≡ 1) ↔ IsRefusedFor (texts words.now) Refusal.Words }
+    ensures ticket_refused { (result ≡ 2) ↔ ((fault : TicketFault) × IsRefusedFor (texts words.now) (Refusal.Ticket fault)) }
     ensures not_decoded { (t : TicketFields) (most : ℕ) → UnpacksUnder t most (texts words.now) result → (result ≡ 4 → ⊥)
         → ((result ≡ 3) ↔ (unpacked t most (bytes_read (change (S.told source.old) (S.told source.new))) ≡ None)) }
     ensures input_fault { CanCount (S.told source.old).faults
@@ -41,7 +43,7 @@ pub fn run_unpack<S: Source, K: Sink, P: Sink>(
     ensures no_other_status { IsUnpackStatus result }
 
     // What was read: nothing after a refusal, else exactly the bytes up to the stop, unless a read failed before it.
-    ensures unread { IsRefusal result → source.new ≡ source.old }
+    ensures unread { EndedAtOnce result → source.new ≡ source.old }
     ensures read_to_stop { (t : TicketFields) (most : ℕ) → UnpacksUnder t most (texts words.now) result → (result ≡ 4 → ⊥)
         → ReadsUpToStop t most (change (S.told source.old) (S.told source.new)) }
     ensures failed_before_stop { (t : TicketFields) (most : ℕ) → UnpacksUnder t most (texts words.now) result → result ≡ 4
@@ -62,39 +64,47 @@ pub fn run_unpack<S: Source, K: Sink, P: Sink>(
         (λ text. WasGiven text (change (K.told file.old) (K.told file.new))) }
 
     // What the report's sink holds.
-    ensures refused { IsRefusal result → WasGiven (status_line result) (change (P.told report.old) (P.told report.new)) }
+    ensures refused { EndedAtOnce result → (cause : Refusal) × IsRefusedFor (texts words.now) cause × (result ≡ status_of cause)
+        × WasGiven (refusal_text cause) (change (P.told report.old) (P.told report.new)) }
     ensures reported { (t : TicketFields) (most : ℕ) → UnpacksUnder t most (texts words.now) result
         → IsReported t most (bytes_read (change (S.told source.old) (S.told source.new))) result
         (change (K.told file.old) (K.told file.new)) (change (P.told report.old) (P.told report.new)) }
 {
     let ticket = match ticket_in(words) {
         Ok(ticket) => ticket,
-        Err(status) => return tell(status, &[], &[], report),
+        Err(refusal) => return refuse(refusal, report),
     };
     let Ok(mut unpacking) = Unpacking::new(alloc, &ticket) else {
-        return tell(Status::Memory, &[], &[], report);
+        return refuse(Refusal::Memory, report);
     };
-    let Ok(_) = unpacking.receive(&ticket, MAX_PIECES, source) else {
-        return tell(Status::InputFault, &[], &[], report);
+    let Ok(counts) = unpacking.receive(&ticket, MAX_PIECES, source) else {
+        return refuse(Refusal::Input, report);
     };
     unpacking.decode(&ticket);
     let status = unpacking.deliver(&ticket, file);
-    tell(status, &unpacking.spaces, &unpacking.answers, report)
+    tell(
+        status,
+        &counts,
+        &unpacking.spaces,
+        &unpacking.answers,
+        report,
+    )
 }
 
 /// The ticket that the words name.
-fn ticket_in(words: &[String]) -> Result<Ticket, Status>
+fn ticket_in(words: &[String]) -> Result<Ticket, Refusal>
     ensures ticket { IfOk result (NamesTicket (texts words.now)) }
-    ensures refused { IfErr result (IsTicketRefusal (texts words.now)) }
+    ensures refused { IfErr result (IsRefusedFor (texts words.now)) }
+    ensures never_memory { IfErr result (λ refusal. status_of refusal ≢ 8) }
 {
     let [command, text] = words else {
-        return Err(Status::Words);
+        return Err(Refusal::Words);
     };
     if command.as_str() != "unpack" {
-        return Err(Status::Words);
+        return Err(Refusal::Words);
     }
     match Ticket::read(text.as_str()) {
         Ok(ticket) => Ok(ticket),
-        Err(_) => Err(Status::Ticket),
+        Err(fault) => Err(Refusal::Ticket(fault)),
     }
 }

@@ -1,0 +1,72 @@
+//! Why a command is refused.
+ghost use Rattle.std.specs.Prelude.{◌≡◌, ◌≤◌};
+ghost use Rattle.arrayvec.specs.ArrayString.{array_string_len};
+ghost use Rattle.kk_top.specs.Refusal.{status_of, cause, ticket_cause, refusal_text};
+
+use crate::lines::{Line, line_of, numbered, status_line};
+use kk_code::TicketFault;
+
+/// Why a command is refused. Its report has a line with the cause, and the status.
+#[derive(Clone, Copy, Debug, PartialEq, Eq)]
+pub(crate) enum Refusal {
+    /// The words aren't of a command's form.
+    Words,
+    /// The word that should be a ticket is none.
+    Ticket(TicketFault),
+    /// The source failed.
+    Input,
+    /// There is no memory.
+    Memory,
+}
+
+impl Refusal {
+    /// The number that the process ends with.
+    pub(crate) fn status(self) -> u8
+        ensures { result ≡ status_of self }
+    {
+        match self {
+            Refusal::Words => 1,
+            Refusal::Ticket(_) => 2,
+            Refusal::Input => 4,
+            Refusal::Memory => 8,
+        }
+    }
+
+    /// The report.
+    pub(crate) fn text(self) -> Line
+        ensures { result.bytes ≡ refusal_text self }
+    {
+        let mut text = self.cause();
+        text.push_str("\n");
+        text.push_str(status_line(self.status()).as_str());
+        text
+    }
+
+    /// The cause, without a line feed.
+    fn cause(self) -> Line
+        ensures text { result.bytes ≡ cause self }
+        ensures short { array_string_len result ≤ 48 }
+    {
+        match self {
+            Refusal::Words => line_of("words"),
+            Refusal::Ticket(fault) => ticket_cause(fault),
+            Refusal::Input => line_of("input fault"),
+            Refusal::Memory => line_of("memory"),
+        }
+    }
+}
+
+/// Why a word is no ticket, without a line feed.
+fn ticket_cause(fault: TicketFault) -> Line
+    ensures text { result.bytes ≡ ticket_cause fault }
+    ensures short { array_string_len result ≤ 48 }
+{
+    match fault {
+        TicketFault::Shape { at } => numbered("ticket shape ", u64::from(at)),
+        TicketFault::Range { field } => numbered("ticket range ", u64::from(field)),
+        TicketFault::NotIrreducible => line_of("ticket not irreducible"),
+        TicketFault::TooMany { generations } => {
+            numbered("ticket too many generations ", generations)
+        }
+    }
+}
