@@ -160,13 +160,21 @@ def capture(ticket, file, erased=0, injected=0, extra=0, seed=0):
     if len(file) != ticket.length or erased + injected > ticket.l - ticket.k or injected > ticket.m:
         raise ValueError("the file has another length than the ticket says, or not all of it would decode")
     rng, powers = random.Random(seed), ticket.powers()
-    frames, report = [], [f"generations {ticket.generations}"]
+    frames, ranks = [], []
     for generation, message in enumerate(ticket.messages(file)):
         rows = received(ticket, ticket.codeword(message, powers), erased, injected, extra, rng)
         frames += [ticket.frame("data", generation, row) for row in rows]
-        report.append(f"generation {generation} rank {len(Span(rows))} decoded")
-    report.append("status 0")
-    return b"".join(frames) + ticket.frame("end"), "".join(line + "\n" for line in report)
+        ranks.append(len(Span(rows)))
+    return b"".join(frames) + ticket.frame("end"), report_of(len(frames), ranks)
+
+
+def report_of(frames, ranks):
+    """The report on so many data frames and END, all of the ticket, where each generation has its rank and is decoded."""
+    refused = "badlength 0 magic 0 version 0 kind 0 session 0 generation 0 row 0 endrow 0"
+    lines = [f"generations {len(ranks)}", f"gate 0 end datagrams {frames + 1} frames {frames} {refused}"]
+    lines += [f"generation {generation} rank {rank} decoded" for generation, rank in enumerate(ranks)]
+    lines.append(f"inserts {frames} innovative {sum(ranks)} redundant {frames - sum(ranks)} late 0")
+    return "".join(line + "\n" for line in [*lines, "status 0"])
 
 
 def main():

@@ -1,6 +1,9 @@
 //! The program `kk`: it makes the real source and sinks, and `kk_top::run` does the rest.
 #![tactic(auto)]
 
+mod ahead;
+
+use ahead::Ahead;
 use kk_outside::{StdSink, StdSource};
 use std::alloc::{AllocError, Global};
 use std::env;
@@ -24,7 +27,7 @@ fn main(rt: HostRuntime) -> ExitCode {
     let Ok(words) = words(&rt, alloc) else {
         return ExitCode::from(NO_MEMORY);
     };
-    let mut source = StdSource::new(rt.stdin());
+    let mut source = StdSource::new(Ahead::new(rt.stdin().lock()));
     let mut file = StdSink::new(rt.stdout());
     let mut report = StdSink::new(rt.stderr());
     let status = kk_top::run(&rt, alloc, &words, &mut source, &mut file, &mut report);
