@@ -15,7 +15,7 @@ trial=(unpack kk1:00000001:2:0000000000000003:1:1:0)
 
 usage() {
   cat << END
-usage: kk unpack TICKET < CAPTURE > FILE
+usage: kk unpack [--most N] TICKET < CAPTURE > FILE
 
 kk receives files sent by noncoherent random network coding, with the subspace code of Kötter and Kschischang.
 

@@ -1,7 +1,7 @@
 pub mod Blocks
 pub mod Spanned
 pub mod Receiving
-pub mod TwoWords
+pub mod Asking
 pub mod Counted
 pub mod Texts
 pub mod Reporting

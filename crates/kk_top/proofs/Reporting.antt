@@ -1,6 +1,6 @@
 -- The report by what a receiver holds, and a run as a whole.
 use Rattle.std.proofs.Common.{◌≡◌, ◌⊎◌, inl, inr, ℕ, ◌<◌, Bool, List, [], ◌∷◌, ◌++◌, length, get_or, Option, None, is_some, refl, ap, sym, subst, ◌∙◌, arith}
-use Rattle.std.specs.Prelude.{map, codes, sum_by, ◌↔◌, IfSome, IsSomeAnd}
+use Rattle.std.specs.Prelude.{map, sum_by, ◌↔◌, IfSome, IsSomeAnd}
 use Rattle.std.proofs.lemmas.List.{append-nil}
 use Rattle.std.specs.List.{zip, range_with_len}
 use Rattle.std.proofs.lemmas.List.{same_lists, length-map, get_or-map}
@@ -11,7 +11,6 @@ use Rattle.kk_rows.specs.Space.{Space}
 use Rattle.kk_code.specs.Decoding.{answer}
 use Rattle.kk_code.specs.Codeword.{width}
 use Rattle.kk_code.specs.Ticket.{TicketFields, generations}
-use Rattle.kk_code.specs.TicketText.{spelled}
 use Rattle.kk_frame.specs.declared.gate_count.GateCount.{GateCount}
 use Rattle.kk_top.specs.Answers.{frozen, answers, file_of, outcomes_of, totals_of}
 use Rattle.kk_top.specs.Command.{MayTouchFile}
@@ -19,7 +18,7 @@ use Rattle.kk_top.specs.Report.{status_line, count_line, gate_line, gate_lines_f
 use Rattle.kk_top.proofs.Counted.{rank_is, ranks-spanned}
 use Rattle.kk_top.specs.Delivery.{IsDelivered}
 use Rattle.kk_top.specs.Spaces.{AreSpanned, AreReceived, no_space}
-use Rattle.kk_top.specs.commands.Unpack.{IsUnpackCommand, NamesTicket, vectors_of, counts_of, unpacked, ReadsUpToStop, FailsBeforeStop, LeavesRemainder, LeavesMore, report_of, IsReported}
+use Rattle.kk_top.specs.commands.Unpack.{vectors_of, counts_of, unpacked, ReadsUpToStop, FailsBeforeStop, LeavesRemainder, LeavesMore, report_of, IsReported}
 use Rattle.kk_outside.specs.Change.{Change}
 use Rattle.kk_outside.specs.Source.{SourceTold, bytes_read}
 use Rattle.kk_outside.specs.Sink.{SinkTold, WasGiven}
@@ -103,18 +102,6 @@ touched_back : (told status : ℕ) → IsStatusOf told status → MayTouchFile s
 touched_back told status (inl same) (inl zero_) = inl (sym same ∙ zero_)
 touched_back told status (inl same) (inr five) = inr (sym same ∙ five)
 touched_back told status (inr five) is = inl five.0
-
--- ---- the words
-
-second_word : (a b c : List ℕ) → a ∷ b ∷ [] ≡ a ∷ c ∷ [] → b ≡ c
-second_word a b c e = cc
-
--- the words have one second word, and it spells one ticket
-same_text : (words : List (List ℕ)) (text other : List ℕ) → IsUnpackCommand words text → IsUnpackCommand words other → other ≡ text
-same_text words text other form another = second_word (codes "unpack") other text (sym another ∙ form)
-
-pub one_ticket : (words : List (List ℕ)) (t s : TicketFields) → NamesTicket words t → NamesTicket words s → t ≡ s
-one_ticket words t s named other = sym named.2.spells ∙ sym (ap spelled (same_text words named.0 other.0 named.1 other.1)) ∙ other.2.spells
 
 -- ---- the run as a whole
 

@@ -6,9 +6,9 @@ use Rattle.std.specs.declared.alloc.Global.{Global}
 abbrev pub texts : List (String Global) → List (List ℕ)
 texts words = map string_bytes words
 
--- The run ended before any call on its source: the words or the ticket were refused, or there was no memory.
+-- The run ended before any call on its source: the words, the ticket or a number were refused, or there was no memory.
 abbrev pub EndedAtOnce : ℕ → Type 0
-EndedAtOnce status = (status ≡ 1) ⊎ ((status ≡ 2) ⊎ (status ≡ 8))
+EndedAtOnce status = (status ≡ 1) ⊎ ((status ≡ 2) ⊎ ((status ≡ 8) ⊎ (status ≡ 11)))
 
 -- Only a run with one of these statuses writes to the file's sink.
 abbrev pub MayTouchFile : ℕ → Type 0

@@ -6,4 +6,5 @@ pub mod Refusal
 pub mod Report
 pub mod Spaces
 pub mod Status
+pub mod Words
 pub mod commands

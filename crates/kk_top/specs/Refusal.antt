@@ -2,28 +2,31 @@
 use Rattle.std.specs.Prelude.{ℕ, List, ◌++◌, codes}
 use Rattle.std.specs.Fmt.{decimal}
 use Rattle.kk_code.specs.declared.fault.TicketFault.{TicketFault}
-use Rattle.kk_code.specs.declared.fault.TicketFault.TheVariants.{Shape, Range, NotIrreducible, TooMany}
+use Rattle.kk_code.specs.declared.fault.TicketFault.TheVariants.{Shape, Range as PartOutOfRange, NotIrreducible, TooMany}
+use Rattle.kk_words.specs.Arguments.{text_of_name}
 use Rattle.kk_top.specs.declared.refusal.Refusal.{Refusal}
-use Rattle.kk_top.specs.declared.refusal.Refusal.TheVariants.{Words, Ticket, Input, Memory}
+use Rattle.kk_top.specs.declared.refusal.Refusal.TheVariants.{Words, Ticket, Range, Input, Memory}
 use Rattle.kk_top.specs.Report.{status_line}
 
 -- the number of the status
 abbrev pub status_of : Refusal → ℕ
 status_of Words = 1
 status_of (Ticket fault) = 2
+status_of (Range name) = 11
 status_of Input = 4
 status_of Memory = 8
 
 -- why a word is no ticket
 abbrev pub ticket_cause : TicketFault → List ℕ
 ticket_cause (Shape at) = codes "ticket shape " ++ decimal at
-ticket_cause (Range field) = codes "ticket range " ++ decimal field
+ticket_cause (PartOutOfRange field) = codes "ticket range " ++ decimal field
 ticket_cause NotIrreducible = codes "ticket not irreducible"
 ticket_cause (TooMany generations) = codes "ticket too many generations " ++ decimal generations
 
 abbrev pub cause : Refusal → List ℕ
 cause Words = codes "words"
 cause (Ticket fault) = ticket_cause fault
+cause (Range name) = codes "range " ++ text_of_name name
 cause Input = codes "input fault"
 cause Memory = codes "memory"
 

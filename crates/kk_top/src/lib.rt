@@ -14,6 +14,7 @@ mod status;
 mod tests;
 mod totals;
 mod unpacking;
+mod words;
 
 pub use commands::run_unpack;
 pub use kk_outside::Alloc;

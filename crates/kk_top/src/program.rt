@@ -5,14 +5,19 @@ ghost use Rattle.kk_outside.specs.Change.{change};
 ghost use Rattle.kk_outside.specs.Source.{SourceFailed, bytes_read};
 ghost use Rattle.kk_outside.specs.Sink.{SinkFailed, WasGiven};
 ghost use Rattle.kk_code.specs.Ticket.{TicketFields};
+ghost use Rattle.kk_code.specs.declared.fault.TicketFault.{TicketFault};
+ghost use Rattle.kk_words.specs.declared.argument.Name.TheVariants as Name;
 ghost use Rattle.kk_top.specs.Command.{texts, EndedAtOnce, MayTouchFile};
 ghost use Rattle.kk_top.specs.Refusal.{status_of, refusal_text};
 ghost use Rattle.kk_top.specs.declared.refusal.Refusal.{Refusal};
-ghost use Rattle.kk_code.specs.declared.fault.TicketFault.{TicketFault};
 ghost use Rattle.kk_top.specs.commands.Unpack.{IsRefusedFor, UnpacksUnder, unpacked, ReadsUpToStop, FailsBeforeStop, LeavesRemainder, LeavesMore, IsReported, IsUnpackStatus};
 
+use crate::refusal::Refusal;
+use crate::report::refuse;
 use crate::run_unpack;
+use crate::words::command_in;
 use kk_outside::{Sink, Source};
+use kk_words::Command;
 use std::alloc::Global;
 
 /// Runs the command that the words name, and answers its status.
@@ -28,8 +33,10 @@ pub fn run<R, S: Source, K: Sink, P: Sink>(
     report: &mut P,
 ) -> u8
     // Which status comes: 8 is want of memory, and 0 comes where no other status does.
-    ensures words_refused { (result ≡ 1) ↔ IsRefusedFor (texts words.now) Refusal.Words }
-    ensures ticket_refused { (result ≡ 2) ↔ ((fault : TicketFault) × IsRefusedFor (texts words.now) (Refusal.Ticket fault)) }
+    ensures words_refused { (result ≡ 8 → ⊥) → ((result ≡ 1) ↔ IsRefusedFor (texts words.now) Refusal.Words) }
+    ensures ticket_refused { (result ≡ 8 → ⊥)
+        → ((result ≡ 2) ↔ ((fault : TicketFault) × IsRefusedFor (texts words.now) (Refusal.Ticket fault))) }
+    ensures range_refused { (result ≡ 8 → ⊥) → ((result ≡ 11) ↔ IsRefusedFor (texts words.now) (Refusal.Range Name.Most)) }
     ensures not_decoded { (t : TicketFields) (most : ℕ) → UnpacksUnder t most (texts words.now) result → (result ≡ 4 → ⊥)
         → ((result ≡ 3) ↔ (unpacked t most (bytes_read (change (S.told source.old) (S.told source.new))) ≡ None)) }
     ensures input_fault { CanCount (S.told source.old).faults
@@ -66,5 +73,12 @@ pub fn run<R, S: Source, K: Sink, P: Sink>(
         → IsReported t most (bytes_read (change (S.told source.old) (S.told source.new))) result
         (change (K.told file.old) (K.told file.new)) (change (P.told report.old) (P.told report.new)) }
 {
-    run_unpack(alloc, words, source, file, report)
+    let Some(command) = command_in(words) else {
+        return refuse(Refusal::Words, report);
+    };
+    match command {
+        Command::Unpack => run_unpack(alloc, words, source, file, report),
+        // Not built yet.
+        Command::Plan | Command::Pack => refuse(Refusal::Words, report),
+    }
 }

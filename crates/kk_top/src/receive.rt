@@ -15,9 +15,6 @@ use kk_frame::{FRAME_BYTES, GateCount, Intake, Limits};
 use kk_outside::{Failed, Source, fill};
 use kk_rows::RowSpace;
 
-/// The most pieces that are taken of a source.
-pub(crate) const MAX_PIECES: u32 = 10_000_000;
-
 /// Takes the frames of a source up to END, to piece number `most` or to its end, and answers what it counted: its bytes are
 /// cut into pieces of the length of a frame, of which each is a datagram, and so is a shorter remainder. Each data frame's
 /// row goes into the space of its generation.

@@ -5,6 +5,7 @@ ghost use Rattle.kk_top.specs.Refusal.{status_of, cause, ticket_cause, refusal_t
 
 use crate::lines::{Line, line_of, numbered, status_line};
 use kk_code::TicketFault;
+use kk_words::Name;
 
 /// Why a command is refused. Its report has a line with the cause, and the status.
 #[derive(Clone, Copy, Debug, PartialEq, Eq)]
@@ -13,6 +14,8 @@ pub(crate) enum Refusal {
     Words,
     /// The word that should be a ticket is none.
     Ticket(TicketFault),
+    /// A number is out of its range.
+    Range(Name),
     /// The source failed.
     Input,
     /// There is no memory.
@@ -27,6 +30,7 @@ impl Refusal {
         match self {
             Refusal::Words => 1,
             Refusal::Ticket(_) => 2,
+            Refusal::Range(_) => 11,
             Refusal::Input => 4,
             Refusal::Memory => 8,
         }
@@ -50,6 +54,7 @@ impl Refusal {
         match self {
             Refusal::Words => line_of("words"),
             Refusal::Ticket(fault) => ticket_cause(fault),
+            Refusal::Range(Name::Most) => line_of("range most"),
             Refusal::Input => line_of("input fault"),
             Refusal::Memory => line_of("memory"),
         }

@@ -180,6 +180,35 @@ fn captures(rt: HostRuntime) -> Result<(), Fail> {
         ),
         (&["unpack", ONE_BYTE], whole.as_slice(), 0, b"\xa0", DONE),
         (&["unpack", ONE_BYTE], front(&whole), 3, b"", CUT),
+        // END is piece number 10.
+        (&["unpack", "--most=10", ONE_BYTE], &whole, 0, b"\xa0", DONE),
+        (
+            &["unpack", ONE_BYTE, "--most", "9"],
+            &whole,
+            0,
+            b"\xa0",
+            b"generations 3\n\
+            gate 0 most datagrams 9 frames 9 badlength 0 magic 0 version 0 kind 0 session 0 generation 0 row 0 endrow 0\n\
+            generation 0 rank 3 decoded\n\
+            generation 1 rank 3 decoded\n\
+            generation 2 rank 3 decoded\n\
+            inserts 9 innovative 9 redundant 0 late 0\n\
+            status 0\n",
+        ),
+        // The remainder is piece number 3.
+        (
+            &["unpack", ONE_BYTE, "--most", "3"],
+            front(&whole),
+            3,
+            b"",
+            b"generations 3\n\
+            gate 0 most datagrams 3 frames 2 badlength 1 magic 0 version 0 kind 0 session 0 generation 0 row 0 endrow 0\n\
+            generation 0 rank 2 decoded\n\
+            generation 1 rank 0 none\n\
+            generation 2 rank 0 none\n\
+            inserts 2 innovative 2 redundant 0 late 0\n\
+            status 3\n",
+        ),
         (
             &["unpack", "kk1:00000001:4:0000000000000003:4:2:1"],
             one_erased_one_injected.as_flattened(),
@@ -256,6 +285,10 @@ fn refusals(rt: HostRuntime) -> Result<(), Fail> {
         (&["unpack"], 1, "words\nstatus 1\n"),
         (&["frob", ONE_BYTE], 1, "words\nstatus 1\n"),
         (&["unpack", ONE_BYTE, "more"], 1, "words\nstatus 1\n"),
+        (&["unpack", ONE_BYTE, "--most"], 1, "words\nstatus 1\n"),
+        (&["unpack", ONE_BYTE, "--most=-1"], 1, "words\nstatus 1\n"),
+        (&["--most", "5", "unpack", ONE_BYTE], 1, "words\nstatus 1\n"),
+        (&["pack", ONE_BYTE], 1, "words\nstatus 1\n"),
         (&["unpack", ""], 2, "ticket shape 0\nstatus 2\n"),
         (
             &["unpack", "kk1:00000001:8:000000000000001B:4:2:1"],
@@ -276,6 +309,21 @@ fn refusals(rt: HostRuntime) -> Result<(), Fail> {
             &["unpack", "kk1:00000001:2:0000000000000003:1:1:4097"],
             2,
             "ticket too many generations 16388\nstatus 2\n",
+        ),
+        (
+            &["unpack", ONE_BYTE, "--most", "0"],
+            11,
+            "range most\nstatus 11\n",
+        ),
+        (
+            &["unpack", ONE_BYTE, "--most", "100000001"],
+            11,
+            "range most\nstatus 11\n",
+        ),
+        (
+            &["unpack", "T", "--most", "0"],
+            2,
+            "ticket shape 0\nstatus 2\n",
         ),
     ] {
         let outcome = run_in(&rt, &unfailing(words, b""))?;
@@ -315,6 +363,25 @@ fn every_call_fails_in_turn(rt: HostRuntime) -> Result<(), Fail> {
         assert_eq!(rt; outcome.status, status);
         assert_eq!(rt; outcome.file.bytes(), file);
     }
+    // Nor is one made after the last piece that may be taken.
+    let outcome = run_in(
+        &rt,
+        &Setting {
+            words: &["unpack", ONE_BYTE, "--most", "100000000"],
+            source_fails: &[10],
+            ..one
+        },
+    )?;
+    assert_eq!(rt; outcome.status, 0);
+    let outcome = run_in(
+        &rt,
+        &Setting {
+            words: &["unpack", ONE_BYTE, "--most", "9"],
+            source_fails: &[9],
+            ..one
+        },
+    )?;
+    assert_eq!(rt; outcome.status, 0);
     for (write, status, file) in [
         (0, 5, b"".as_slice()),
         (1, 5, b"\xa0"),

@@ -26,8 +26,8 @@ const PACK: [Argument; 1] = [Argument::Word(Word::Ticket)];
 const UNPACK: [Argument; 2] = [Argument::Word(Word::Ticket), Argument::Number(Name::Most)];
 
 impl Command {
-    /// The command of this name.
-    pub(crate) fn named(name: &str) -> Option<Command>
+    /// The command that a first word names.
+    pub fn named(name: &str) -> Option<Command>
         ensures { result ≡ command_named name.now }
     {
         match name {

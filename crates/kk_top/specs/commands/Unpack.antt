@@ -1,5 +1,5 @@
 -- `unpack`: a capture of frames comes in, and the file goes out.
-use Rattle.std.specs.Prelude.{◌≡◌, ◌↔◌, ◌⊎◌, ℕ, ◌==◌, ◌||◌, if◌then◌else◌, ◌<◌, Option, Some, List, [], ◌∷◌, ◌++◌, length, take, drop, sum_by, codes}
+use Rattle.std.specs.Prelude.{◌≡◌, ◌↔◌, ◌⊎◌, ℕ, ◌==◌, ◌||◌, if◌then◌else◌, ◌<◌, Option, Some, List, [], ◌∷◌, ◌++◌, length, take, drop, sum_by}
 use Rattle.kk_outside.specs.Causes.{CanCount}
 use Rattle.kk_outside.specs.Change.{Change}
 use Rattle.kk_outside.specs.Source.{Read, AtEnd, Failed, SourceTold, Took, bytes_read}
@@ -12,35 +12,45 @@ use Rattle.kk_frame.specs.declared.gate_count.GateCount.{GateCount}
 use Rattle.kk_frame.specs.Capture.{capture_events}
 use Rattle.kk_frame.specs.Events.{datagrams, stop, taken, counts}
 use Rattle.kk_outside.specs.declared.event.Event.{Event}
-use Rattle.kk_top.specs.declared.receive.TheConstants.{MAX_PIECES}
+use Rattle.kk_words.specs.declared.command.Command.TheVariants.{Unpack}
+use Rattle.kk_words.specs.declared.argument.Name.TheVariants.{Most}
+use Rattle.kk_words.specs.Request.{Request, number_of}
 use Rattle.kk_top.specs.declared.refusal.Refusal.{Refusal}
-use Rattle.kk_top.specs.declared.refusal.Refusal.TheVariants.{Words, Ticket, Input, Memory}
+use Rattle.kk_top.specs.declared.refusal.Refusal.TheVariants.{Words, Ticket, Range, Input, Memory}
 use Rattle.kk_top.specs.Answers.{file_text, outcomes_of, totals_of}
 use Rattle.kk_top.specs.Command.{EndedAtOnce, MayTouchFile}
 use Rattle.kk_top.specs.Refusal.{refusal_text}
 use Rattle.kk_top.specs.Report.{received_lines, status_line}
+use Rattle.kk_top.specs.Words.{IsRequestFor, AsksNothingOf, IsMost}
 
 -- ---- the words
 
--- the words are `unpack` and one more, the ticket's
-abbrev pub IsUnpackCommand : List (List ℕ) → List ℕ → Type 0
-IsUnpackCommand words text = words ≡ codes "unpack" ∷ text ∷ []
+-- The words ask for `unpack`, with this text of a ticket and at most so many pieces.
+pub record AsksToUnpack (words : List (List ℕ)) (text : List ℕ) (most : ℕ) : Type 0 where
+  pub request : Request
+  pub asked : IsRequestFor words Unpack request
+  pub ticket : request.texts ≡ text ∷ []
+  pub pieces : number_of request.numbers Most ≡ Some most
 
--- the words are of that form, and the second is the text of this ticket
-abbrev pub NamesTicket : List (List ℕ) → TicketFields → Type 0
-NamesTicket words t = (text : List ℕ) × IsUnpackCommand words text × IsTicketText text t
+-- The words ask to unpack under this ticket, with at most so many pieces, which are in their range.
+pub record NamesTicket (words : List (List ℕ)) (t : TicketFields) (most : ℕ) : Type 0 where
+  pub text : List ℕ
+  pub asked : AsksToUnpack words text most
+  pub ticket : IsTicketText text t
+  pub in_range : IsMost most
 
 -- why these words are refused before any call on the source
 abbrev pub IsRefusedFor : List (List ℕ) → Refusal → Type 0
-IsRefusedFor words Words = (text : List ℕ) → IsUnpackCommand words text → ⊥
-IsRefusedFor words (Ticket fault) = (text : List ℕ) × IsUnpackCommand words text × IsFirstFault text fault
+IsRefusedFor words Words = AsksNothingOf words Unpack
+IsRefusedFor words (Ticket fault) = (text : List ℕ) × (most : ℕ) × AsksToUnpack words text most × IsFirstFault text fault
+IsRefusedFor words (Range name) =
+    (text : List ℕ) × (most : ℕ) × (t : TicketFields) × AsksToUnpack words text most × IsTicketText text t × ¬ IsMost most
 IsRefusedFor words Input = ⊥
 IsRefusedFor words Memory = Unit {0}
 
 -- A run with these words and this status unpacked under this ticket, with at most so many pieces: it wasn't refused.
 pub record UnpacksUnder (t : TicketFields) (most : ℕ) (words : List (List ℕ)) (status : ℕ) : Type 0 where
-  pub named : NamesTicket words t
-  pub pieces : most ≡ MAX_PIECES
+  pub named : NamesTicket words t most
   pub accepted : EndedAtOnce status → ⊥
 
 -- ---- the capture

@@ -1,0 +1,53 @@
+//! What the words ask of a command, and the ranges of its numbers.
+ghost use Rattle.std.specs.Prelude.{◌≡◌, ◌⊎◌, Err, IfOk, IfErr, IfSome, IsNone, IsSome, IsTrue, count_by, is_some, length};
+ghost use Rattle.kk_words.specs.Arguments.{default_of};
+ghost use Rattle.kk_words.specs.Commands.{form_of};
+ghost use Rattle.kk_words.specs.Request.{has_number, is_word, number_of};
+ghost use Rattle.kk_top.specs.Command.{texts};
+ghost use Rattle.kk_top.specs.Words.{IsRequestFor, AsksNothingOf, named_in, IsMost};
+
+use crate::refusal::Refusal;
+use kk_words::{Asked, Command, Name, WordsFault, read_words};
+use std::alloc::Global;
+
+/// The most datagrams that `--most` may name.
+pub(crate) const MAX_MOST: u64 = 100_000_000;
+
+/// The command that the first word names.
+pub(crate) fn command_in(words: &[String]) -> Option<Command>
+    ensures { result ≡ named_in (texts words.now) }
+{
+    Command::named(words.first()?.as_str())
+}
+
+/// What the words ask of this command.
+pub(crate) fn asked_of(alloc: Global, words: &[String], command: Command) -> Result<Asked, Refusal>
+    ensures asked { IfOk result (IsRequestFor (texts words.now) command) }
+    ensures words { result ≡ Err Refusal.Words → AsksNothingOf (texts words.now) command }
+    ensures no_other { IfErr result (λ refusal. (refusal ≡ Refusal.Words) ⊎ (refusal ≡ Refusal.Memory)) }
+
+    // Each word of the command's form has a text, and each number of it that has a default is there.
+    ensures texts { IfOk result (λ asked. length asked.texts ≡ count_by is_word (form_of command)) }
+    ensures numbers { IfOk result (λ asked. (name : Name) → IsTrue (is_some (default_of name)) → IsTrue (has_number command name) → IsSome (number_of asked.numbers name)) }
+{
+    let asked = match read_words(alloc, words) {
+        Ok(asked) => asked,
+        Err(WordsFault::Words) => return Err(Refusal::Words),
+        Err(WordsFault::Alloc) => return Err(Refusal::Memory),
+    };
+    if asked.command() != command {
+        return Err(Refusal::Words);
+    }
+    Ok(asked)
+}
+
+/// The number of `--most`, where it is in its range.
+pub(crate) fn most_in(number: u64) -> Option<u32>
+    ensures some { IfSome result (λ most. (most ≡ number) × IsMost most) }
+    ensures none { IsNone result → IsMost number → ⊥ }
+{
+    if number < 1 || number > MAX_MOST {
+        return None;
+    }
+    Some(number as u32)
+}
