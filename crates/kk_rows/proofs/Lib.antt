@@ -11,4 +11,5 @@ pub mod Distances
 pub mod ReducedForm
 pub mod Traces
 pub mod AdditiveMaps
+pub mod Combinations
 pub mod Examples

@@ -3,6 +3,7 @@ pub mod Distance
 pub mod Echelon
 pub mod Space
 pub mod Rows
+pub mod Combination
 pub mod AdditiveMap
 pub mod Laws
 pub mod Traces

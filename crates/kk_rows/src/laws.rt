@@ -1,5 +1,6 @@
-//! The laws of dimension, meet, distance and additive maps, over any rows of any width.
+//! The laws of dimension, meet, distance, combinations and additive maps, over any rows of any width.
 //! Each function's contract is the law.
+ghost use Rattle.kk_rows.specs.Combination.{CombinationsAreMembers};
 ghost use Rattle.kk_rows.specs.Laws.{
   SpanDimensionIsUnique,
   MeetDimensionIsTheMeet,
@@ -40,4 +41,9 @@ pub fn additive_maps_take_spans_to_spans()
 /// The rows 2^0, 2^1, .. 2^(n-1) are independent and span the rows below 2^n.
 pub fn unit_rows_are_a_basis()
     ensures { UnitRowsAreABasis }
+{}
+
+/// Each combination of rows is a member of their span.
+pub fn combinations_are_members()
+    ensures { CombinationsAreMembers }
 {}

@@ -3,6 +3,7 @@
 //! A [`Row`] is a number: bit i is its coordinate i, and the sum of two rows is their exclusive or.
 #![tactic(auto)]
 
+mod combining;
 mod echelon;
 mod errors;
 pub mod laws;
@@ -12,6 +13,7 @@ mod rows;
 mod tests;
 mod traced;
 
+pub use combining::combination;
 pub use errors::Alloc;
 pub use row_space::{MAX_WIDTH, RowSpace};
 pub use rows::Row;
