@@ -1,6 +1,7 @@
 pub mod Values
 pub mod Irreducible
 pub mod Tickets
+pub mod Lengths
 pub mod Numerals
 pub mod Shapes
 pub mod Answers

@@ -17,6 +17,10 @@ message_bits p = p.k * p.field.degree
 abbrev pub generations : TicketFields → ℕ
 generations t = (8 * t.length + (message_bits t.code - 1)) / message_bits t.code
 
+-- the ticket of the same session and code for a file of so many bytes
+abbrev pub for_length : TicketFields → ℕ → TicketFields
+for_length t n = record { session = t.session; code = t.code; length = n }
+
 -- the character of a hexadecimal digit, 0-9 and a-f
 abbrev pub hex_digit : ℕ → ℕ
 hex_digit d = if nat_lt d 10 then 48 + d else 87 + d

@@ -4,7 +4,6 @@ ghost use Rattle.std.specs.Char.{is_ascii_digit};
 ghost use Rattle.std.specs.List.{list_all};
 ghost use Rattle.std.specs.Str.Parse.{digits_value};
 ghost use Rattle.kk_code.specs.Codeword.{IsInRange};
-ghost use Rattle.kk_code.specs.Ticket.{generations};
 ghost use Rattle.kk_code.specs.TicketText.{parts, part_at, has_form, is_mark, is_hex, is_hex_digit, is_decimal, shape_fault, range_fault, spelled};
 
 use crate::Code;
@@ -201,15 +200,5 @@ impl Parts {
         ensures { result ≡ self.now.code }
     {
         Code::from_parts(field, self.l as u32, self.k as u32)
-    }
-
-    /// How many messages the file takes.
-    pub(crate) fn generations(&self) -> u64
-        requires code { IsInRange self.now.code }
-        requires length { self.now.length < 10 ^ 10 }
-        ensures { result ≡ generations self.now }
-    {
-        let bits = self.k * self.m;
-        (8 * self.length + (bits - 1)) / bits
     }
 }

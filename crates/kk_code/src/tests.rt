@@ -126,3 +126,23 @@ fn products_of_degree_four_are_refused(rt: HostRuntime) {
         assert!(rt; !is_good(4, low), "X^4 + {low}");
     }
 }
+
+#[test]
+fn a_ticket_is_made_for_another_length(rt: HostRuntime) -> Result<(), Fail> {
+    let ticket = Ticket::read("kk1:00000001:2:0000000000000003:1:1:0")?;
+    assert_eq!(rt; ticket.max_length(), 4096);
+    let full = ticket.with_length(4096)?;
+    assert_eq!(rt;
+        full.write().as_str(),
+        "kk1:00000001:2:0000000000000003:1:1:4096"
+    );
+    assert_eq!(rt; full.generations(), 16_384);
+    let refused = ticket.with_length(4097).err();
+    assert_eq!(rt;
+        refused,
+        Some(TicketFault::TooMany {
+            generations: 16_388
+        })
+    );
+    Ok(())
+}

@@ -1,6 +1,6 @@
 //! Tickets: what sender, relays and receiver agree on before a transmission.
-ghost use Rattle.std.specs.Prelude.{◌≡◌, ℕ, ◌^◌, ◌<◌, ◌↔◌, Ok, Err, IfOk, IsErr};
-ghost use Rattle.kk_code.specs.Ticket.{TicketFields, generations, ticket_text};
+ghost use Rattle.std.specs.Prelude.{◌≡◌, ℕ, ◌^◌, ◌*◌, ◌/◌, ◌<◌, ◌≤◌, ◌↔◌, Ok, Err, IfOk, IfErr, IsErr};
+ghost use Rattle.kk_code.specs.Ticket.{TicketFields, message_bits, generations, for_length, ticket_text};
 ghost use Rattle.kk_code.specs.TicketText.{IsTicket, IsTicketText, IsFirstFault};
 ghost use Rattle.kk_code.specs.Reading.{IsRefused, IsAnswer};
 
@@ -70,6 +70,30 @@ impl Ticket {
         self.generation_count
     }
 
+    /// How many bytes a file has at most for a ticket with this session and code.
+    pub fn max_length(&self) -> u64
+        ensures value { result ≡ MAX_GENERATIONS * message_bits self.now.code / 8 }
+        ensures fits { (length : ℕ) → (length ≤ result) ↔ (generations (for_length self.now length) ≤ MAX_GENERATIONS) }
+        ensures short { result < 2 ^ 22 }
+    {
+        let code = self.code();
+        u64::from(MAX_GENERATIONS * (code.k() * code.m())) / 8
+    }
+
+    /// The ticket with this session and code for a file of `length` bytes, which is below 10^10.
+    ///
+    /// # Errors
+    ///
+    /// `TooMany`, exactly where the file takes more than [`MAX_GENERATIONS`] generations.
+    pub fn with_length(&self, length: u64) -> Result<Self, TicketFault>
+        requires { length < 10 ^ 10 }
+        ensures ticket { IfOk result (λ t. t ≡ for_length self.now length) }
+        ensures too_many { IfErr result (λ fault. fault ≡ TicketFault.TooMany (generations (for_length self.now length))) }
+        ensures refused { IsErr result ↔ (MAX_GENERATIONS < generations (for_length self.now length)) }
+    {
+        Self::of(self.session(), self.code(), length)
+    }
+
     /// The ticket that the text is, one word `kk1:SESSION:M:MOD:L:K:LENGTH`.
     ///
     /// SESSION is 8 and MOD 16 characters of 0-9 and a-f, the session and the low part of the modulus. M, L, K and
@@ -119,14 +143,25 @@ impl Ticket {
         let Ok(field) = check_modulus(parts.m as u32, parts.low) else {
             return Err(TicketFault::NotIrreducible);
         };
-        let generations = parts.generations();
+        Self::of(parts.session, parts.code(field), parts.length)
+    }
+
+    /// The ticket of these parts, unless the file takes too many generations.
+    fn of(session: u32, code: Code, length: u64) -> Result<Self, TicketFault>
+        requires { length < 10 ^ 10 }
+        ensures ticket { IfOk result (λ t. t ≡ record { session = session; code = code; length = length }) }
+        ensures too_many { IfErr result (λ fault. fault ≡ TicketFault.TooMany (generations (record { session = session; code = code; length = length }))) }
+        ensures refused { IsErr result ↔ (MAX_GENERATIONS < generations (record { session = session; code = code; length = length })) }
+    {
+        let bits = u64::from(code.k() * code.m());
+        let generations = (8 * length + (bits - 1)) / bits;
         if generations > u64::from(MAX_GENERATIONS) {
             return Err(TicketFault::TooMany { generations });
         }
         Ok(Ticket {
-            session: parts.session,
-            code: parts.code(field),
-            length: parts.length,
+            session,
+            code,
+            length,
             generation_count: generations as u32,
         })
     }
