@@ -59,7 +59,7 @@ pub same_most : (words : List (List ℕ)) (t s : TicketFields) (most more : ℕ)
 same_most words t s most more a b = same_number words a.text b.text most more a.asked b.asked
 
 -- a ticket's text has no fault
-no_fault : (text : List ℕ) (f : TicketFault) (t : TicketFields) → IsFirstFault text f → IsTicketText text t → ⊥
+pub no_fault : (text : List ℕ) (f : TicketFault) (t : TicketFields) → IsFirstFault text f → IsTicketText text t → ⊥
 no_fault text (fault.Shape at) t first ticket = false≢true (ap is_some (sym ticket.shape ∙ first))
 no_fault text (fault.Range part) t first ticket =
     false≢true (ap is_some (sym ticket.range ∙ ap (λ s. range_fault s.code) (sym ticket.spells) ∙ first.1))

@@ -5,3 +5,5 @@ pub mod Asking
 pub mod Counted
 pub mod Texts
 pub mod Reporting
+pub mod Promises
+pub mod Plans

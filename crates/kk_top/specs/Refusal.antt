@@ -1,11 +1,13 @@
 -- Why a command is refused, and the report of a refusal: a line with the cause, and the status.
-use Rattle.std.specs.Prelude.{ℕ, List, ◌++◌, codes}
+use Rattle.std.specs.Prelude.{◌≡◌, ℕ, List, ◌++◌, codes}
 use Rattle.std.specs.Fmt.{decimal}
 use Rattle.kk_code.specs.declared.fault.TicketFault.{TicketFault}
 use Rattle.kk_code.specs.declared.fault.TicketFault.TheVariants.{Shape, Range as PartOutOfRange, NotIrreducible, TooMany}
 use Rattle.kk_words.specs.Arguments.{text_of_name}
 use Rattle.kk_top.specs.declared.refusal.Refusal.{Refusal}
 use Rattle.kk_top.specs.declared.refusal.Refusal.TheVariants.{Words, Ticket, Range, Input, Memory}
+use Rattle.kk_outside.specs.Change.{Change}
+use Rattle.kk_outside.specs.Sink.{SinkTold, WasGiven}
 use Rattle.kk_top.specs.Report.{status_line}
 
 -- the number of the status
@@ -33,3 +35,8 @@ cause Memory = codes "memory"
 -- the whole report
 abbrev pub refusal_text : Refusal → List ℕ
 refusal_text refusal = cause refusal ++ codes "\n" ++ status_line (status_of refusal)
+
+-- The run ended with the status of this cause, and its report is the cause's.
+pub record IsRefused (why : Refusal) (status : ℕ) (report : Change SinkTold) : Type 0 where
+  pub tells : status ≡ status_of why
+  pub given : WasGiven (refusal_text why) report

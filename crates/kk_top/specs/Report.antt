@@ -1,7 +1,10 @@
 -- The text of a report: lines that each end with a line feed, of words and numbers that one space parts.
-use Rattle.std.specs.Prelude.{◌≡◌, ℕ, ◌+◌, ◌-◌, ◌==◌, Bool, true, false, if◌then◌else◌, List, [], ◌∷◌, ◌++◌, length, map, sum_by, Option, Some, None, is_some, refl, codes}
+use Rattle.std.specs.Prelude.{◌≡◌, ◌↔◌, ◌⊎◌, ℕ, ◌+◌, ◌-◌, ◌==◌, Bool, true, false, if◌then◌else◌, List, [], ◌∷◌, ◌++◌, length, map, sum_by, Option, Some, None, is_some, refl, codes}
 use Rattle.std.specs.Fmt.{decimal, digits}
 use Rattle.std.specs.List.{zip}
+use Rattle.kk_outside.specs.Causes.{CanCount}
+use Rattle.kk_outside.specs.Change.{Change}
+use Rattle.kk_outside.specs.Sink.{SinkTold, SinkFailed, WasGiven}
 use Rattle.kk_rows.specs.Space.{Space}
 use Rattle.kk_rows.specs.Span.{dimension}
 use Rattle.kk_frame.specs.declared.gate_count.Ended.{Ended}
@@ -91,6 +94,20 @@ outcome_lines counts spaces answers =
 -- the report by them: the status alone where it is 5
 abbrev pub outcome_report : ℕ → GateCount → List Space → List (Option (List ℕ)) → List ℕ
 outcome_report status counts spaces answers = (if status == 5 then [] else outcome_lines counts spaces answers) ++ status_line status
+
+-- ---- the report of a sender: a few lines
+
+-- these lines and the status: the status alone where it is 5
+abbrev pub concluded_text : ℕ → List ℕ → List ℕ
+concluded_text status lines = (if status == 5 then [] else lines) ++ status_line status
+
+-- The report's sink was given these lines and the status of the run, or 0 where that is 5 since the report failed. It
+-- tells 5 exactly where the file's sink failed.
+pub record IsConcluded (lines : List ℕ) (status : ℕ) (file report : Change SinkTold) : Type 0 where
+  pub told : ℕ
+  pub same_or_five : (status ≡ told) ⊎ ((told ≡ 0) × (status ≡ 5))
+  pub five : CanCount file.old.faults → ((told ≡ 5) ↔ SinkFailed file)
+  pub given : WasGiven (concluded_text told lines) report
 
 -- ---- worked
 

@@ -16,6 +16,6 @@ mod totals;
 mod unpacking;
 mod words;
 
-pub use commands::run_unpack;
+pub use commands::{run_plan, run_unpack};
 pub use kk_outside::Alloc;
 pub use program::run;

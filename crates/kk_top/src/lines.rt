@@ -14,6 +14,9 @@ pub(crate) type Line = ArrayString<64>;
 /// A line of many numbers. The longest has 318 bytes.
 pub(crate) type LongLine = ArrayString<352>;
 
+/// A few lines, and the status.
+pub(crate) type Lines = ArrayString<512>;
+
 /// A text as a line, without a line feed.
 pub(crate) fn line_of(text: &str) -> Line
     requires { length text.now ≤ 48 }

@@ -1,21 +1,16 @@
 //! The whole program, over the objects that it is handed.
-ghost use Rattle.std.specs.Prelude.{◌≡◌, ◌↔◌, ◌⊎◌, ℕ, List, [], Some, None, IfSome, IsSomeAnd};
-ghost use Rattle.kk_outside.specs.Causes.{CanCount};
+ghost use Rattle.std.specs.Prelude.{◌≡◌, Some, None};
 ghost use Rattle.kk_outside.specs.Change.{change};
-ghost use Rattle.kk_outside.specs.Source.{SourceFailed, bytes_read};
-ghost use Rattle.kk_outside.specs.Sink.{SinkFailed, WasGiven};
-ghost use Rattle.kk_code.specs.Ticket.{TicketFields};
-ghost use Rattle.kk_code.specs.declared.fault.TicketFault.{TicketFault};
-ghost use Rattle.kk_words.specs.declared.argument.Name.TheVariants as Name;
-ghost use Rattle.kk_top.specs.Command.{texts, EndedAtOnce, MayTouchFile};
-ghost use Rattle.kk_top.specs.Refusal.{status_of, refusal_text};
-ghost use Rattle.kk_top.specs.declared.refusal.Refusal.{Refusal};
-ghost use Rattle.kk_top.specs.commands.Unpack.{IsRefusedFor, UnpacksUnder, unpacked, ReadsUpToStop, FailsBeforeStop, LeavesRemainder, LeavesMore, IsReported, IsUnpackStatus};
+ghost use Rattle.kk_top.specs.Command.{texts, MayTouchFile};
+ghost use Rattle.kk_top.specs.Refusal.{IsRefused};
+ghost use Rattle.kk_top.specs.Words.{named_in};
+ghost use Rattle.kk_top.specs.commands.Plan.{Plans};
+ghost use Rattle.kk_top.specs.commands.Unpack.{Unpacks};
 
 use crate::refusal::Refusal;
 use crate::report::refuse;
-use crate::run_unpack;
 use crate::words::command_in;
+use crate::{run_plan, run_unpack};
 use kk_outside::{Sink, Source};
 use kk_words::Command;
 use std::alloc::Global;
@@ -32,53 +27,30 @@ pub fn run<R, S: Source, K: Sink, P: Sink>(
     file: &mut K,
     report: &mut P,
 ) -> u8
-    // Which status comes: 8 is want of memory, and 0 comes where no other status does.
-    ensures words_refused { (result ≡ 8 → ⊥) → ((result ≡ 1) ↔ IsRefusedFor (texts words.now) Refusal.Words) }
-    ensures ticket_refused { (result ≡ 8 → ⊥)
-        → ((result ≡ 2) ↔ ((fault : TicketFault) × IsRefusedFor (texts words.now) (Refusal.Ticket fault))) }
-    ensures range_refused { (result ≡ 8 → ⊥) → ((result ≡ 11) ↔ IsRefusedFor (texts words.now) (Refusal.Range Name.Most)) }
-    ensures not_decoded { (t : TicketFields) (most : ℕ) → UnpacksUnder t most (texts words.now) result → (result ≡ 4 → ⊥)
-        → ((result ≡ 3) ↔ (unpacked t most (bytes_read (change (S.told source.old) (S.told source.new))) ≡ None)) }
-    ensures input_fault { CanCount (S.told source.old).faults
-        → ((result ≡ 4) ↔ SourceFailed (change (S.told source.old) (S.told source.new))) }
-    ensures output_fault { CanCount (K.told file.old).faults → CanCount (P.told report.old).faults → MayTouchFile result
-        → ((result ≡ 5) ↔ (SinkFailed (change (K.told file.old) (K.told file.new)) ⊎ SinkFailed (change (P.told report.old) (P.told report.new)))) }
-    ensures no_other_status { IsUnpackStatus result }
+    // No command is named.
+    ensures unnamed { named_in (texts words.now) ≡ None → IsRefused Refusal.Words result (change (P.told report.old) (P.told report.new)) }
 
-    // What was read: nothing after a refusal, else exactly the bytes up to the stop, unless a read failed before it.
-    ensures unread { EndedAtOnce result → source.new ≡ source.old }
-    ensures read_to_stop { (t : TicketFields) (most : ℕ) → UnpacksUnder t most (texts words.now) result → (result ≡ 4 → ⊥)
-        → ReadsUpToStop t most (change (S.told source.old) (S.told source.new)) }
-    ensures failed_before_stop { (t : TicketFields) (most : ℕ) → UnpacksUnder t most (texts words.now) result → result ≡ 4
-        → FailsBeforeStop t most (change (S.told source.old) (S.told source.new)) }
+    // What each command promises.
+    ensures plans { named_in (texts words.now) ≡ Some Command.Plan
+        → Plans (texts words.now) (change (S.told source.old) (S.told source.new))
+        (change (K.told file.old) (K.told file.new)) (change (P.told report.old) (P.told report.new)) result }
+    ensures packs { named_in (texts words.now) ≡ Some Command.Pack
+        → IsRefused Refusal.Words result (change (P.told report.old) (P.told report.new)) }
+    ensures unpacks { named_in (texts words.now) ≡ Some Command.Unpack
+        → Unpacks (texts words.now) (change (S.told source.old) (S.told source.new))
+        (change (K.told file.old) (K.told file.new)) (change (P.told report.old) (P.told report.new)) result }
 
-    // The same where the source tells the bytes that it has left.
-    ensures remainder { (t : TicketFields) (most : ℕ) → UnpacksUnder t most (texts words.now) result → (result ≡ 4 → ⊥)
-        → IfSome (S.told source.old).left (λ bytes. LeavesRemainder t most bytes (change (S.told source.old) (S.told source.new))) }
-    ensures more_left { (t : TicketFields) (most : ℕ) → UnpacksUnder t most (texts words.now) result → result ≡ 4
-        → IfSome (S.told source.old).left (λ bytes. LeavesMore t most bytes (change (S.told source.old) (S.told source.new))) }
-
-    // What the file's sink holds. An empty file makes no call on it.
+    // Words that aren't of a command's form read nothing, and a refusal writes nothing but its report.
+    ensures unread { result ≡ 1 → source.new ≡ source.old }
     ensures unwritten { (MayTouchFile result → ⊥) → file.new ≡ file.old }
-    ensures no_bytes { (t : TicketFields) (most : ℕ) → UnpacksUnder t most (texts words.now) result
-        → unpacked t most (bytes_read (change (S.told source.old) (S.told source.new))) ≡ Some [] → file.new ≡ file.old }
-    ensures file { (t : TicketFields) (most : ℕ) → UnpacksUnder t most (texts words.now) result → MayTouchFile result
-        → IsSomeAnd (unpacked t most (bytes_read (change (S.told source.old) (S.told source.new))))
-        (λ text. WasGiven text (change (K.told file.old) (K.told file.new))) }
-
-    // What the report's sink holds.
-    ensures refused { EndedAtOnce result → (cause : Refusal) × IsRefusedFor (texts words.now) cause × (result ≡ status_of cause)
-        × WasGiven (refusal_text cause) (change (P.told report.old) (P.told report.new)) }
-    ensures reported { (t : TicketFields) (most : ℕ) → UnpacksUnder t most (texts words.now) result
-        → IsReported t most (bytes_read (change (S.told source.old) (S.told source.new))) result
-        (change (K.told file.old) (K.told file.new)) (change (P.told report.old) (P.told report.new)) }
 {
     let Some(command) = command_in(words) else {
         return refuse(Refusal::Words, report);
     };
     match command {
-        Command::Unpack => run_unpack(alloc, words, source, file, report),
+        Command::Plan => run_plan(alloc, words, source, file, report),
         // Not built yet.
-        Command::Plan | Command::Pack => refuse(Refusal::Words, report),
+        Command::Pack => refuse(Refusal::Words, report),
+        Command::Unpack => run_unpack(alloc, words, source, file, report),
     }
 }

@@ -1,16 +1,16 @@
 //! The report of a run.
-ghost use Rattle.std.specs.Prelude.{◌≡◌, ◌↔◌, ◌⊎◌, ◌≤◌, ◌++◌, length, sum_by};
+ghost use Rattle.std.specs.Prelude.{◌≡◌, IsErr, ◌↔◌, ◌⊎◌, ◌≤◌, ◌++◌, length, sum_by};
 ghost use Rattle.kk_rows.specs.Span.{dimension};
 ghost use Rattle.kk_outside.specs.Causes.{HasCause, CanCount};
 ghost use Rattle.kk_outside.specs.Change.{change};
 ghost use Rattle.kk_outside.specs.Sink.{SinkFailed, WasGiven, WritesAllTo};
 ghost use Rattle.kk_top.specs.Block.{Adds};
 ghost use Rattle.kk_top.specs.Refusal.{status_of, refusal_text};
-ghost use Rattle.kk_top.specs.Report.{status_line, generation_lines, outcomes, outcome_lines, outcome_report};
+ghost use Rattle.kk_top.specs.Report.{status_line, generation_lines, outcomes, outcome_lines, outcome_report, concluded_text};
 ghost use Rattle.kk_top.specs.Status.{code_of};
 
 use crate::block::Block;
-use crate::lines::{count_line, gate_line, generation_line, inserts_line, status_line};
+use crate::lines::{Lines, count_line, gate_line, generation_line, inserts_line, status_line};
 use crate::refusal::Refusal;
 use crate::status::Status;
 use crate::totals::Totals;
@@ -45,7 +45,42 @@ pub(crate) fn tell<P: Sink>(
     ensures five { CanCount (P.told report.old).faults → code_of status ≡ 0
         → ((result ≡ 5) ↔ SinkFailed (change (P.told report.old) (P.told report.new))) }
 {
-    match write_report(status, counts, spaces, answers, report) {
+    let outcome = write_report(status, counts, spaces, answers, report);
+    code_after(status, outcome)
+}
+
+/// Writes the report of a command that tells a few lines, each with its line feed, and answers the status of the run: a
+/// report that can't be written turns 0 into 5. Where the file's sink failed, the report is the status alone.
+pub(crate) fn conclude<P: Sink>(status: Status, lines: &str, report: &mut P) -> u8
+    requires short { length lines.now ≤ 480 }
+    ensures given { WasGiven (concluded_text (code_of status) lines.now) (change (P.told report.old) (P.told report.new)) }
+    ensures same_or_five { (result ≡ code_of status) ⊎ ((code_of status ≡ 0) × (result ≡ 5)) }
+    ensures five { CanCount (P.told report.old).faults → code_of status ≡ 0
+        → ((result ≡ 5) ↔ SinkFailed (change (P.told report.old) (P.told report.new))) }
+{
+    let outcome = write_all(report, concluded(status, lines).as_str().as_bytes());
+    code_after(status, outcome)
+}
+
+/// The lines, and the status; the status alone where the file's sink failed.
+fn concluded(status: Status, lines: &str) -> Lines
+    requires short { length lines.now ≤ 480 }
+    ensures { result.bytes ≡ concluded_text (code_of status) lines.now }
+{
+    let mut text = Lines::new();
+    if status != Status::OutputFault {
+        text.push_str(lines);
+    }
+    text.push_str(status_line(status.code()).as_str());
+    text
+}
+
+/// The number of the status, where the report came out so: a report that can't be written turns 0 into 5.
+fn code_after(status: Status, outcome: Result<(), Failed>) -> u8
+    ensures same_or_five { (result ≡ code_of status) ⊎ ((code_of status ≡ 0) × (result ≡ 5)) }
+    ensures failed { code_of status ≡ 0 → ((result ≡ 5) ↔ IsErr outcome) }
+{
+    match outcome {
         Err(_) if status == Status::Done => Status::OutputFault.code(),
         _ => status.code(),
     }

@@ -1,11 +1,12 @@
 -- `unpack`: a capture of frames comes in, and the file goes out.
-use Rattle.std.specs.Prelude.{◌≡◌, ◌↔◌, ◌⊎◌, ℕ, ◌==◌, ◌||◌, if◌then◌else◌, ◌<◌, Option, Some, List, [], ◌∷◌, ◌++◌, length, take, drop, sum_by}
+use Rattle.std.specs.Prelude.{◌≡◌, ◌↔◌, ◌⊎◌, ℕ, ◌==◌, ◌||◌, if◌then◌else◌, ◌<◌, Option, Some, None, IfSome, IsSomeAnd, List, [], ◌∷◌, ◌++◌, length, take, drop, sum_by}
 use Rattle.kk_outside.specs.Causes.{CanCount}
 use Rattle.kk_outside.specs.Change.{Change}
-use Rattle.kk_outside.specs.Source.{Read, AtEnd, Failed, SourceTold, Took, bytes_read}
+use Rattle.kk_outside.specs.Source.{Read, AtEnd, Failed, SourceTold, SourceFailed, Took, bytes_read}
 use Rattle.kk_outside.specs.Sink.{SinkTold, SinkFailed, WasGiven}
 use Rattle.kk_code.specs.Ticket.{TicketFields}
 use Rattle.kk_code.specs.TicketText.{IsTicketText, IsFirstFault}
+use Rattle.kk_code.specs.declared.fault.TicketFault.{TicketFault}
 use Rattle.kk_frame.specs.declared.frame.TheConstants.{FRAME_BYTES}
 use Rattle.kk_frame.specs.declared.limits.Limits.{Limits}
 use Rattle.kk_frame.specs.declared.gate_count.GateCount.{GateCount}
@@ -19,7 +20,7 @@ use Rattle.kk_top.specs.declared.refusal.Refusal.{Refusal}
 use Rattle.kk_top.specs.declared.refusal.Refusal.TheVariants.{Words, Ticket, Range, Input, Memory}
 use Rattle.kk_top.specs.Answers.{file_text, outcomes_of, totals_of}
 use Rattle.kk_top.specs.Command.{EndedAtOnce, MayTouchFile}
-use Rattle.kk_top.specs.Refusal.{refusal_text}
+use Rattle.kk_top.specs.Refusal.{status_of, refusal_text}
 use Rattle.kk_top.specs.Report.{received_lines, status_line}
 use Rattle.kk_top.specs.Words.{IsRequestFor, AsksNothingOf, IsMost}
 
@@ -142,3 +143,27 @@ pub record IsReported (t : TicketFields) (most : ℕ) (bytes : List ℕ) (status
 -- the statuses of `unpack`
 abbrev pub IsUnpackStatus : ℕ → Type 0
 IsUnpackStatus status = EndedAtOnce status ⊎ ((status ≡ 3) ⊎ ((status ≡ 4) ⊎ MayTouchFile status))
+
+-- ---- the promise
+
+-- What a run of `unpack` makes of its source and its two sinks, and which status it has.
+pub record Unpacks (words : List (List ℕ)) (source : Change SourceTold) (file report : Change SinkTold) (status : ℕ) : Type 0 where
+  -- Which status comes: 8 is want of memory, and 0 comes where no other status does.
+  pub words_refused : (status ≡ 8 → ⊥) → ((status ≡ 1) ↔ IsRefusedFor words Words)
+  pub ticket_refused : (status ≡ 8 → ⊥) → ((status ≡ 2) ↔ ((fault : TicketFault) × IsRefusedFor words (Ticket fault)))
+  pub range_refused : (status ≡ 8 → ⊥) → ((status ≡ 11) ↔ IsRefusedFor words (Range Most))
+  pub not_decoded : (t : TicketFields) (most : ℕ) → UnpacksUnder t most words status → (status ≡ 4 → ⊥) → ((status ≡ 3) ↔ (unpacked t most (bytes_read source) ≡ None))
+  pub input_fault : CanCount source.old.faults → ((status ≡ 4) ↔ SourceFailed source)
+  pub output_fault : CanCount file.old.faults → CanCount report.old.faults → MayTouchFile status → ((status ≡ 5) ↔ (SinkFailed file ⊎ SinkFailed report))
+  pub no_other_status : IsUnpackStatus status
+  -- What was read: exactly the bytes up to the stop, unless a read failed before it.
+  pub read_to_stop : (t : TicketFields) (most : ℕ) → UnpacksUnder t most words status → (status ≡ 4 → ⊥) → ReadsUpToStop t most source
+  pub failed_before_stop : (t : TicketFields) (most : ℕ) → UnpacksUnder t most words status → status ≡ 4 → FailsBeforeStop t most source
+  -- The same where the source tells the bytes that it has left.
+  pub remainder : (t : TicketFields) (most : ℕ) → UnpacksUnder t most words status → (status ≡ 4 → ⊥) → IfSome source.old.left (λ bytes. LeavesRemainder t most bytes source)
+  pub more_left : (t : TicketFields) (most : ℕ) → UnpacksUnder t most words status → status ≡ 4 → IfSome source.old.left (λ bytes. LeavesMore t most bytes source)
+  -- What the file's sink holds.
+  pub written : (t : TicketFields) (most : ℕ) → UnpacksUnder t most words status → MayTouchFile status → IsSomeAnd (unpacked t most (bytes_read source)) (λ text. WasGiven text file)
+  -- What the report's sink holds.
+  pub refused : EndedAtOnce status → (cause : Refusal) × IsRefusedFor words cause × (status ≡ status_of cause) × WasGiven (refusal_text cause) report
+  pub reported : (t : TicketFields) (most : ℕ) → UnpacksUnder t most words status → IsReported t most (bytes_read source) status file report

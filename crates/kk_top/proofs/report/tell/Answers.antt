@@ -4,6 +4,6 @@ use Rattle.kk_top.specs.Status.{code_of}
 use Rattle.kk_top.specs.Report.{outcome_report}
 use Rattle.kk_top.proofs.report.tell.Goals as goal
 
-pub returns-in_default-clause-given : goal.returns-in_default-clause-given
-returns-in_default-clause-given g c =
-    WasGiven-written (outcome_report (code_of c.args.status) c.args.counts.now c.args.spaces.now c.args.answers.now) (change (g.P.Sink.told c.args.report.now) (g.P.Sink.told c.write_report.new.report)) c.write_report.result c.write_report.ensures.writes c.write_report.ensures.cause
+pub returns-clause-given : goal.returns-clause-given
+returns-clause-given g c =
+    WasGiven-written (outcome_report (code_of c.args.status) c.args.counts.now c.args.spaces.now c.args.answers.now) (change (g.P.Sink.told c.args.report.now) (g.P.Sink.told c.write_report-outcome.new.report)) c.write_report-outcome.result c.write_report-outcome.ensures.writes c.write_report-outcome.ensures.cause

@@ -1,0 +1,179 @@
+//! `plan`: the ticket of a file, from how many bytes the source has.
+ghost use Rattle.std.specs.Prelude.{◌≡◌, ◌⊎◌, ◌↔◌, ◌≤◌, ◌^◌, ◌++◌, codes, IfOk, IfErr, string_bytes, vec_len};
+ghost use Rattle.kk_outside.specs.Causes.{CanCount};
+ghost use Rattle.kk_outside.specs.Change.{change};
+ghost use Rattle.kk_outside.specs.Sink.{SinkFailed, WasGiven};
+ghost use Rattle.kk_code.specs.Ticket.{TicketFields, ticket_text};
+ghost use Rattle.kk_top.specs.Command.{texts, MayTouchFile};
+ghost use Rattle.kk_top.specs.Status.{code_of};
+ghost use Rattle.kk_top.specs.commands.Plan.{NamesCode, IsRefusedFor, IsFirstTooLong, plan_text, Plans};
+
+use crate::lines::Lines;
+use crate::refusal::Refusal;
+use crate::report::{conclude, refuse};
+use crate::status::Status;
+use crate::words::asked_of;
+use kk_code::Ticket;
+use kk_outside::{Alloc, Sink, Source, fill, write_all};
+use kk_words::{Asked, Command};
+use std::alloc::Global;
+
+/// Reads the source to its end, and writes the ticket of a file of that length and a line feed.
+///
+/// `words` are `plan` and the ticket's SESSION, M, MOD, L and K. At the first byte that makes more generations than a
+/// ticket has it stops. The answer is the status, which the report tells too. All memory, at most 2 MB, is taken before
+/// the first call on the source or a sink.
+pub fn run_plan<S: Source, K: Sink, P: Sink>(
+    alloc: Global,
+    words: &[String],
+    source: &mut S,
+    file: &mut K,
+    report: &mut P,
+) -> u8
+    ensures plans { Plans (texts words.now) (change (S.told source.old) (S.told source.new))
+        (change (K.told file.old) (K.told file.new)) (change (P.told report.old) (P.told report.new)) result }
+
+    // Nothing is read where the words name no code or there is no memory, and nothing is written on a refusal.
+    ensures unread { (((t : TicketFields) → NamesCode (texts words.now) t → ⊥) ⊎ (result ≡ 8)) → source.new ≡ source.old }
+    ensures unwritten { (MayTouchFile result → ⊥) → file.new ≡ file.old }
+{
+    let ticket = match code_named(alloc, words) {
+        Ok(ticket) => ticket,
+        Err(refusal) => return refuse(refusal, report),
+    };
+    let Ok(mut bytes) = room_for(alloc, &ticket) else {
+        return refuse(Refusal::Memory, report);
+    };
+    let Ok(count) = fill(source, bytes.as_mut_slice()) else {
+        return refuse(Refusal::Input, report);
+    };
+    match ticket.with_length(count as u64) {
+        Ok(planned) => conclude(write_ticket(&planned, file), "", report),
+        Err(fault) => refuse(Refusal::Ticket(fault), report),
+    }
+}
+
+/// The ticket of the session and code that the words name, for a file of no bytes.
+fn code_named(alloc: Global, words: &[String]) -> Result<Ticket, Refusal>
+    ensures named { IfOk result (NamesCode (texts words.now)) }
+    ensures refused { IfErr result (IsRefusedFor (texts words.now)) }
+{
+    let asked = asked_of(alloc, words, Command::Plan)?;
+    let Ok(text) = text_of(alloc, &asked) else {
+        return Err(Refusal::Memory);
+    };
+    match Ticket::read(text.as_str()) {
+        Ok(ticket) => Ok(ticket),
+        Err(fault) => Err(Refusal::Ticket(fault)),
+    }
+}
+
+/// The words as a ticket's text, with the length 0.
+fn text_of(alloc: Global, asked: &Asked) -> Result<String, Alloc>
+    ensures { IfOk result (λ text. string_bytes text ≡ plan_text asked.now.texts) }
+{
+    let mut text = String::from_str(alloc, "kk1")?;
+    for i in 0..asked.texts() {
+        text.push_str(":")?;
+        text.push_str(asked.text(i))?;
+    }
+    text.push_str(":0")?;
+    Ok(text)
+}
+
+/// Room for the bytes of the longest file, and for one more.
+fn room_for(alloc: Global, ticket: &Ticket) -> Result<Vec<u8>, Alloc>
+    ensures longest { IfOk result (λ bytes. IsFirstTooLong ticket.now (vec_len bytes)) }
+    ensures short { IfOk result (λ bytes. vec_len bytes ≤ 2 ^ 22) }
+{
+    let mut bytes = Vec::new(alloc);
+    bytes.resize(ticket.max_length() as usize + 1, 0)?;
+    Ok(bytes)
+}
+
+/// Writes the ticket and a line feed.
+fn write_ticket<K: Sink>(ticket: &Ticket, file: &mut K) -> Status
+    ensures given { WasGiven (ticket_text ticket.now ++ codes "\n") (change (K.told file.old) (K.told file.new)) }
+    ensures status { MayTouchFile (code_of result) }
+    ensures five { CanCount (K.told file.old).faults → ((code_of result ≡ 5) ↔ SinkFailed (change (K.told file.old) (K.told file.new))) }
+{
+    let mut text = Lines::new();
+    text.push_str(ticket.write().as_str());
+    text.push_str("\n");
+    match write_all(file, text.as_str().as_bytes()) {
+        Ok(()) => Status::Done,
+        Err(_) => Status::OutputFault,
+    }
+}
+
+#[cfg(test)]
+mod tests {
+    use super::*;
+    use kk_outside::{MemorySink, MemorySource};
+    use std::test::Fail;
+
+    /// The words for GF(8) with the modulus X^3 + X + 1, and for GF(4), whose messages carry the least.
+    const SMALL: [&str; 6] = ["plan", "00000001", "3", "0000000000000003", "3", "1"];
+
+    const LEAST: [&str; 6] = ["plan", "00000001", "2", "0000000000000003", "1", "1"];
+
+    /// The status of a plan over so many bytes, how many it left, and its two sinks.
+    fn plan(
+        rt: &HostRuntime,
+        words: &[&str],
+        len: usize,
+        fails: &[u64],
+    ) -> Result<(u8, usize, MemorySink, MemorySink), Fail> {
+        let alloc = rt.alloc();
+        let mut texts = Vec::new(alloc);
+        for word in words {
+            texts.push(String::from_str(alloc, word)?)?;
+        }
+        let mut bytes = Vec::new(alloc);
+        bytes.resize(len, 0)?;
+        let mut source = MemorySource::new(bytes, 4096, fails.to_vec(alloc)?);
+        let mut file = MemorySink::new(alloc, 100, 100, Vec::new(alloc))?;
+        let mut report = MemorySink::new(alloc, 100, 100, Vec::new(alloc))?;
+        let status = run_plan(alloc, &texts, &mut source, &mut file, &mut report);
+        let left = fill(&mut source, &mut [0; 16_384])?;
+        Ok((status, left, file, report))
+    }
+
+    #[test]
+    fn one_byte_has_the_ticket_of_its_length(rt: HostRuntime) -> Result<(), Fail> {
+        let (status, _, file, report) = plan(&rt, &SMALL, 1, &[])?;
+        assert_eq!(rt; status, 0);
+        assert_eq!(rt;
+            file.bytes(),
+            b"kk1:00000001:3:0000000000000003:3:1:1\n".as_slice()
+        );
+        assert_eq!(rt; report.bytes(), b"status 0\n".as_slice());
+        Ok(())
+    }
+
+    #[test]
+    fn the_byte_that_makes_too_many_generations_is_the_last_read(
+        rt: HostRuntime,
+    ) -> Result<(), Fail> {
+        assert_eq!(rt; plan(&rt, &LEAST, 4096, &[])?.0, 0);
+        let (status, left, file, report) = plan(&rt, &LEAST, 4100, &[])?;
+        assert_eq!(rt; (status, left), (2, 3));
+        assert_eq!(rt; file.bytes(), b"".as_slice());
+        assert_eq!(rt;
+            report.bytes(),
+            b"ticket too many generations 16388\nstatus 2\n".as_slice()
+        );
+        Ok(())
+    }
+
+    #[test]
+    fn a_plan_is_refused(rt: HostRuntime) -> Result<(), Fail> {
+        let colon = ["plan", "00000001", "3:0", "0000000000000003", "3", "1"];
+        let (status, _, _, report) = plan(&rt, &colon, 1, &[])?;
+        assert_eq!(rt; status, 2);
+        assert_eq!(rt; report.bytes(), b"ticket shape 3\nstatus 2\n".as_slice());
+        assert_eq!(rt; plan(&rt, &SMALL[..5], 1, &[])?.0, 1);
+        assert_eq!(rt; plan(&rt, &SMALL, 1, &[0])?.0, 4);
+        Ok(())
+    }
+}
