@@ -4,7 +4,7 @@
 mod ahead;
 
 use ahead::Ahead;
-use kk_outside::{StdSink, StdSource};
+use kk_outside::{StdSink, StdSource, UdpGate, UdpOutlet};
 use std::alloc::{AllocError, Global};
 use std::env;
 use std::process::ExitCode;
@@ -30,6 +30,17 @@ fn main(rt: HostRuntime) -> ExitCode {
     let mut source = StdSource::new(Ahead::new(rt.stdin().lock()));
     let mut file = StdSink::new(rt.stdout());
     let mut report = StdSink::new(rt.stderr());
-    let status = kk_top::run(&rt, alloc, &words, &mut source, &mut file, &mut report);
+    let mut gates: Vec<UdpGate> = Vec::new(alloc);
+    let mut outlet = UdpOutlet::none();
+    let status = kk_top::run(
+        &rt,
+        alloc,
+        &words,
+        &mut source,
+        &mut file,
+        &mut report,
+        &mut gates,
+        &mut outlet,
+    );
     ExitCode::from(status)
 }

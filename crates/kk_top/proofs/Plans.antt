@@ -18,13 +18,13 @@ use Rattle.kk_code.specs.TicketText.{IsFirstFault, spelled}
 use Rattle.kk_code.specs.declared.fault.TicketFault.{TicketFault}
 use Rattle.kk_code.specs.declared.fault.TicketFault.TheVariants.{TooMany}
 use Rattle.kk_words.specs.declared.command.Command.TheVariants.{Plan}
-use Rattle.kk_words.specs.Request.{Request, request_of}
+use Rattle.kk_words.specs.Request.{Request}
 use Rattle.kk_top.specs.declared.refusal.Refusal.{Refusal}
 use Rattle.kk_top.specs.declared.refusal.Refusal.TheVariants.{Words, Ticket, Range, Input, Memory}
 use Rattle.kk_top.specs.Command.{MayTouchFile}
-use Rattle.kk_top.specs.Refusal.{status_of, refusal_text, IsRefused}
-use Rattle.kk_top.specs.Report.{concluded_text, IsConcluded}
-use Rattle.kk_top.specs.Words.{IsRequestFor, AsksNothingOf}
+use Rattle.kk_top.specs.Refusal.{status_of, refusal_text}
+use Rattle.kk_top.specs.Report.{concluded_text}
+use Rattle.kk_top.specs.Words.{IsRequestFor}
 use Rattle.kk_top.specs.commands.Plan.{NamesCode, NamesNoCode, IsRefusedFor, IsTooLong, IsCauseOf, ReadsToEnd, StopsAtLimit, FailsBeforeEnd, IsFirstTooLong, planned, plan_text, Plans}
 use Rattle.kk_top.proofs.Asking.{no_fault}
 

@@ -11,21 +11,23 @@ use crate::refusal::Refusal;
 use crate::report::refuse;
 use crate::words::command_in;
 use crate::{run_plan, run_unpack};
-use kk_outside::{Sink, Source};
+use kk_outside::{Gate, Outlet, Sink, Source};
 use kk_words::Command;
 use std::alloc::Global;
 
 /// Runs the command that the words name, and answers its status.
 ///
-/// `words` are those of the command line, without the program's name. So far the one command is `unpack`. `_rt` is the
-/// runtime, with no bound: nothing can be printed or opened by it.
-pub fn run<R, S: Source, K: Sink, P: Sink>(
+/// `words` are those of the command line, without the program's name. The commands so far are `plan` and `unpack`. `_rt` is
+/// the runtime, with no bound: nothing can be printed or opened by it. `_gates` and `_outlet` are for commands to come.
+pub fn run<R, S: Source, K: Sink, P: Sink, G: Gate + Send, O: Outlet>(
     _rt: &R,
     alloc: Global,
     words: &[String],
     source: &mut S,
     file: &mut K,
     report: &mut P,
+    _gates: &mut Vec<G>,
+    _outlet: &mut O,
 ) -> u8
     // No command is named.
     ensures unnamed { named_in (texts words.now) ≡ None → IsRefused Refusal.Words result (change (P.told report.old) (P.told report.new)) }
@@ -43,6 +45,10 @@ pub fn run<R, S: Source, K: Sink, P: Sink>(
     // Words that aren't of a command's form read nothing, and a refusal writes nothing but its report.
     ensures unread { result ≡ 1 → source.new ≡ source.old }
     ensures unwritten { (MayTouchFile result → ⊥) → file.new ≡ file.old }
+
+    // No command receives or sends datagrams so far.
+    ensures gates { _gates.new ≡ _gates.old }
+    ensures outlet { _outlet.new ≡ _outlet.old }
 {
     let Some(command) = command_in(words) else {
         return refuse(Refusal::Words, report);

@@ -1,7 +1,7 @@
 ghost use Rattle.std.specs.Prelude.{◌<◌};
 
 use super::*;
-use kk_outside::{MemorySink, MemorySource, Source, StdSource};
+use kk_outside::{MemoryGate, MemoryOutlet, MemorySink, MemorySource, Source, StdSource};
 use std::alloc::{AllocError, Global};
 use std::io;
 use std::io::Read;
@@ -9,7 +9,6 @@ use std::test::Fail;
 
 /// Unpacks a capture that is held in memory, and drops the report: true where the file's sink has the file.
 fn unpack_bytes(
-    rt: &HostRuntime,
     alloc: Global,
     words: &[String],
     bytes: Vec<u8>,
@@ -17,7 +16,7 @@ fn unpack_bytes(
 ) -> Result<bool, Alloc> {
     let mut source = MemorySource::new(bytes, 4096, Vec::new(alloc));
     let mut report = MemorySink::new(alloc, 1_000_000, 4096, Vec::new(alloc))?;
-    Ok(run(rt, alloc, words, &mut source, file, &mut report) == 0)
+    Ok(run_unpack(alloc, words, &mut source, file, &mut report) == 0)
 }
 
 /// The ticket of a file of one byte: three generations, and rows of six bits.
@@ -118,6 +117,29 @@ fn texts(alloc: Global, words: &[&str]) -> Result<Vec<String>, AllocError> {
     Ok(texts)
 }
 
+/// Runs the program with no gate, and with an outlet that takes nothing.
+fn run_on<S: Source>(
+    rt: &HostRuntime,
+    words: &[String],
+    source: &mut S,
+    file: &mut MemorySink,
+    report: &mut MemorySink,
+) -> Result<u8, Fail> {
+    let alloc = rt.alloc();
+    let mut gates: Vec<MemoryGate> = Vec::new(alloc);
+    let mut outlet = MemoryOutlet::new(alloc, 0, Vec::new(alloc))?;
+    Ok(run(
+        rt,
+        alloc,
+        words,
+        source,
+        file,
+        report,
+        &mut gates,
+        &mut outlet,
+    ))
+}
+
 fn run_in(rt: &HostRuntime, setting: &Setting) -> Result<Outcome, Fail> {
     let alloc = rt.alloc();
     let words = texts(alloc, setting.words)?;
@@ -134,7 +156,7 @@ fn run_in(rt: &HostRuntime, setting: &Setting) -> Result<Outcome, Fail> {
         setting.file_fails.to_vec(alloc)?,
     )?;
     let mut report = MemorySink::new(alloc, 1000, 100, setting.report_fails.to_vec(alloc)?)?;
-    let status = run(rt, alloc, &words, &mut source, &mut file, &mut report);
+    let status = run_on(rt, &words, &mut source, &mut file, &mut report)?;
     Ok(Outcome {
         status,
         file,
@@ -445,7 +467,7 @@ fn the_largest_ticket_without_input(rt: HostRuntime) -> Result<(), Fail> {
     let mut file = MemorySink::new(alloc, 1, 1, Vec::new(alloc))?;
     let mut report = MemorySink::new(alloc, 500_000, 4096, [114u64].to_vec(alloc)?)?;
     assert_eq!(rt;
-        run(&rt, alloc, &words, &mut source, &mut file, &mut report),
+        run_on(&rt, &words, &mut source, &mut file, &mut report)?,
         3
     );
     let text = report.bytes();
@@ -497,7 +519,7 @@ fn bytes_after_an_end_stay_with_the_source(rt: HostRuntime) -> Result<(), Fail> 
     let mut file = MemorySink::new(alloc, 1, 1, Vec::new(alloc))?;
     let mut report = MemorySink::new(alloc, 1000, 100, Vec::new(alloc))?;
     assert_eq!(rt;
-        run(&rt, alloc, &words, &mut source, &mut file, &mut report),
+        run_on(&rt, &words, &mut source, &mut file, &mut report)?,
         3
     );
     assert_eq!(rt; report.bytes(), CUT);
@@ -513,7 +535,7 @@ fn a_capture_in_memory(rt: HostRuntime) -> Result<(), Fail> {
     let bytes = capture(alloc, &[FIVE, ZERO, ZERO])?;
     let words = texts(alloc, &["unpack", ONE_BYTE])?;
     let mut file = MemorySink::new(alloc, 1, 1, Vec::new(alloc))?;
-    assert_eq!(rt; unpack_bytes(&rt, alloc, &words, bytes, &mut file)?, true);
+    assert_eq!(rt; unpack_bytes(alloc, &words, bytes, &mut file)?, true);
     assert_eq!(rt; file.bytes(), [0xa0].as_slice());
     Ok(())
 }

@@ -1,4 +1,4 @@
-use Rattle.std.proofs.Common.{◌∙◌, ◌++◌, ap, codes, string_bytes}
+use Rattle.std.proofs.Common.{◌∙◌, ◌++◌, ap, string_bytes}
 use Rattle.kk_top.proofs.Plans.{joined_more}
 use Rattle.kk_top.proofs.commands.plan.text_of.Goals as goal
 

@@ -1,4 +1,4 @@
-use Rattle.std.proofs.Common.{rules, ◌≡◌, ◌∙◌, ap, codes, ◌++◌, subst}
+use Rattle.std.proofs.Common.{rules, ◌≡◌, codes, ◌++◌, subst}
 use Rattle.kk_outside.specs.Change.{change}
 use Rattle.kk_outside.specs.Sink.{WasGiven}
 use Rattle.kk_outside.proofs.Known.{WasGiven-written}

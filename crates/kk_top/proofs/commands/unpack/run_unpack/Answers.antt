@@ -3,12 +3,11 @@ use Rattle.kk_rows.specs.Space.{Space}
 use Rattle.kk_outside.specs.Change.{change}
 use Rattle.kk_outside.specs.Source.{bytes_read}
 use Rattle.kk_outside.specs.Sink.{WasGiven}
-use Rattle.kk_code.specs.Ticket.{TicketFields}
 use Rattle.kk_top.specs.Answers.{file_of}
 use Rattle.kk_top.specs.Status.{code_of}
 use Rattle.kk_top.specs.Command.{texts}
 use Rattle.kk_top.specs.Report.{outcome_report}
-use Rattle.kk_top.specs.commands.Unpack.{UnpacksUnder, unpacked}
+use Rattle.kk_top.specs.commands.Unpack.{unpacked}
 use Rattle.kk_top.specs.declared.refusal.Refusal.TheVariants.{Memory}
 use Rattle.kk_top.proofs.Promises.{unpacks_refused, unpacks_failed, unpacks_received}
 use Rattle.kk_top.proofs.Asking.{same_ticket, same_most}
