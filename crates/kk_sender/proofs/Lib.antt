@@ -1,0 +1,4 @@
+pub mod Datagrams
+pub mod Frames
+pub mod Lengths
+pub mod Generations

@@ -1,0 +1,7 @@
+pub mod Faults
+pub mod Words
+pub mod SentFrames
+pub mod LengthRule
+pub mod Sending
+pub mod Laws
+pub mod SentExamples

@@ -1,0 +1,99 @@
+//! The datagram that is being filled.
+ghost use Rattle.std.specs.Prelude.{◌≡◌, ◌≤◌, List, [], ◌∷◌, ◌++◌, OnOk, OnErr};
+ghost use Rattle.kk_outside.specs.Causes.{HasCause};
+ghost use Rattle.kk_outside.specs.Change.{change};
+ghost use Rattle.kk_outside.specs.Outlet.{OutletTold, append_datagrams};
+ghost use Rattle.kk_code.specs.Ticket.{TicketFields};
+ghost use Rattle.kk_frame.specs.Frame.{FrameValue, IsFrame};
+ghost use Rattle.kk_frame.specs.FrameView.{value};
+ghost use Rattle.kk_sender.specs.SentFrames.{datagrams_of};
+ghost use Rattle.kk_sender.specs.Sending.{IsPending, IsCut};
+
+use arrayvec::ArrayVec;
+use kk_code::Ticket;
+use kk_frame::{FRAME_BYTES, Frame, MAX_DATAGRAM_FRAMES, write_frame};
+use kk_outside::{Failed, MAX_DATAGRAM_BYTES, Outlet};
+use std::marker::Model;
+
+/// Frames that wait until there are as many as a datagram has. Clauses see how many these are, how many wait, and the bytes
+/// of those that wait.
+#[derive(Drop)]
+pub(crate) struct Datagram {
+    pack: usize,
+    frames: usize,
+    bytes: ArrayVec<u8, MAX_DATAGRAM_BYTES>,
+}
+
+impl Model for Datagram {
+    ghost use Rattle.std.specs.Prelude.{◌≡◌, ◌*◌, ◌<◌, ◌≤◌, length};
+    ghost use Rattle.kk_frame.specs.declared.frame.TheConstants.{FRAME_BYTES};
+    ghost use Rattle.kk_frame.specs.declared.datagram.TheConstants.{MAX_DATAGRAM_FRAMES};
+    ghost use Rattle.kk_sender.specs.Sending.{DatagramState};
+
+    ghost Value = { DatagramState };
+
+    ghost view = { λ d. record { pack = d.pack; frames = d.frames; bytes = d.bytes.items } };
+
+    ghost invariant = { λ d. (d.frames < d.pack) × (d.pack ≤ MAX_DATAGRAM_FRAMES) × (length d.bytes.items ≡ FRAME_BYTES * d.frames) };
+}
+
+impl Datagram {
+    /// A datagram of `pack` frames, of which none is there yet.
+    pub(crate) fn new(pack: u32) -> Datagram
+        requires some { 1 ≤ pack }
+        requires few { pack ≤ MAX_DATAGRAM_FRAMES }
+        ensures { result ≡ record { pack = pack; frames = 0; bytes = [] } }
+    {
+        Datagram {
+            pack: pack as usize,
+            frames: 0,
+            bytes: ArrayVec::new(),
+        }
+    }
+
+    /// Adds a frame, and sends the datagram where it has all its frames then.
+    pub(crate) fn push<O: Outlet>(
+        &mut self,
+        frame: &Frame,
+        ticket: &Ticket,
+        outlet: &mut O,
+    ) -> Result<(), Failed>
+        requires { IsFrame ticket.now (value frame.now) }
+        ensures pending { OnOk result ((start : OutletTold) (frames : List FrameValue)
+            → IsPending ticket.now (change start (O.told outlet.old)) self.old frames
+            → IsPending ticket.now (change start (O.told outlet.new)) self.new (frames ++ value frame.now ∷ [])) }
+        ensures cut { OnErr result ((start : OutletTold) (frames : List FrameValue)
+            → IsPending ticket.now (change start (O.told outlet.old)) self.old frames
+            → IsCut ticket.now self.old.pack (change start (O.told outlet.new)) (frames ++ value frame.now ∷ [])) }
+        ensures cause { HasCause (O.told outlet.old).faults (O.told outlet.new).faults result }
+        ensures pack { self.new.pack ≡ self.old.pack }
+    {
+        let mut text = [0; FRAME_BYTES];
+        write_frame(frame, ticket, &mut text);
+        self.bytes.try_extend_from_slice(&text).unwrap();
+        self.frames += 1;
+        if self.frames < self.pack {
+            return Ok(());
+        }
+        let sent = outlet.send(self.bytes.as_slice());
+        self.bytes.clear();
+        self.frames = 0;
+        sent
+    }
+
+    /// Sends the frames that wait, where there are some.
+    pub(crate) fn finish<O: Outlet>(self, outlet: &mut O) -> Result<(), Failed>
+        ensures all { OnOk result ((start : OutletTold) (frames : List FrameValue) (t : TicketFields)
+            → IsPending t (change start (O.told outlet.old)) self frames
+            → (O.told outlet.new).sent ≡ append_datagrams start.sent (datagrams_of t self.pack frames)) }
+        ensures cut { OnErr result ((start : OutletTold) (frames : List FrameValue) (t : TicketFields)
+            → IsPending t (change start (O.told outlet.old)) self frames
+            → IsCut t self.pack (change start (O.told outlet.new)) frames) }
+        ensures cause { HasCause (O.told outlet.old).faults (O.told outlet.new).faults result }
+    {
+        if self.frames == 0 {
+            return Ok(());
+        }
+        outlet.send(self.bytes.as_slice())
+    }
+}
