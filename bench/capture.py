@@ -3,10 +3,12 @@
 injected, and random combinations of the rows that are left.
 
   bench/capture.py TICKET [--erased E] [--injected I] [--extra X] [--seed S] [--report REPORT] < FILE > CAPTURE
+  bench/capture.py TICKET --plain [--report REPORT] < FILE > CAPTURE
 
 Of each codeword E dimensions are erased, and I dimensions are injected that it hasn't. Then come random combinations of
 what is left, until they span it, and X further ones; the frame END ends the capture. --report writes the report that
-`kk unpack TICKET` owes for it. E + I is at most L - K, so that each generation decodes.
+`kk unpack TICKET` owes for it. E + I is at most L - K, so that each generation decodes. --plain makes the capture that
+`kk pack TICKET` owes: the rows of the codewords themselves.
 
 This is no part of kk and takes nothing from it: it is written after docs/FORMATS.md alone, slowly and plainly.
 """
@@ -168,6 +170,17 @@ def capture(ticket, file, erased=0, injected=0, extra=0, seed=0):
     return b"".join(frames) + ticket.frame("end"), report_of(len(frames), ranks)
 
 
+def plain_capture(ticket, file):
+    """The rows of all codewords as frames, and END; and the report that `unpack` owes for them."""
+    powers = ticket.powers()
+    frames = [
+        ticket.frame("data", generation, row)
+        for generation, message in enumerate(ticket.messages(file))
+        for row in ticket.codeword(message, powers)
+    ]
+    return b"".join(frames) + ticket.frame("end"), report_of(len(frames), [ticket.l] * ticket.generations)
+
+
 def report_of(frames, ranks):
     """The report on so many data frames and END, all of the ticket, where each generation has its rank and is decoded."""
     refused = "badlength 0 magic 0 version 0 kind 0 session 0 generation 0 row 0 endrow 0"
@@ -182,10 +195,14 @@ def main():
     parser.add_argument("ticket", type=Ticket)
     for name in ("--erased", "--injected", "--extra", "--seed"):
         parser.add_argument(name, type=int, default=0)
+    parser.add_argument("--plain", action="store_true")
     parser.add_argument("--report")
     words = parser.parse_args()
     file = sys.stdin.buffer.read()
-    frames, report = capture(words.ticket, file, words.erased, words.injected, words.extra, words.seed)
+    if words.plain:
+        frames, report = plain_capture(words.ticket, file)
+    else:
+        frames, report = capture(words.ticket, file, words.erased, words.injected, words.extra, words.seed)
     sys.stdout.buffer.write(frames)
     if words.report:
         with open(words.report, "w", encoding="ascii") as to:

@@ -12,7 +12,7 @@ use Rattle.kk_sender.specs.SentFrames.{packed, sent_datagrams, datagrams_of}
 use Rattle.kk_sender.specs.LengthRule.{wrong_length}
 
 pub capture_of_one_byte : packed one_byte (160 ∷ []) ≡ capture
-unfolding frame_text number_from value_from frobenius field_product product product_below remainder remainder_below
+unfolding packed frame_text number_from value_from frobenius field_product product product_below remainder remainder_below
 capture_of_one_byte = refl
 
 -- the words 3, 0 and 7

@@ -33,9 +33,13 @@ data_frames rows n = flat_map (λ g. vectors g (rows g)) (range_with_len 0 n)
 abbrev pub text_of : TicketFields → List FrameValue → List ℕ
 text_of t frames = flat_map (frame_text t) frames
 
--- the capture of a file: the rows of all codewords, and END
-abbrev pub packed : TicketFields → List ℕ → List ℕ
-packed t file = text_of t (data_frames (codeword_of t file) (generations t) ++ End ∷ [])
+-- the frames of a capture: the rows of all codewords, and END
+abbrev pub capture_frames : TicketFields → List ℕ → List FrameValue
+capture_frames t file = data_frames (codeword_of t file) (generations t) ++ End ∷ []
+
+-- the capture of a file
+unfoldable pub packed : TicketFields → List ℕ → List ℕ
+packed t file = text_of t (capture_frames t file)
 
 -- the frames in datagrams of `pack`, in order, the last of which may have fewer
 unfoldable pub datagrams_of : TicketFields → ℕ → List FrameValue → List (List ℕ)

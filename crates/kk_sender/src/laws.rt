@@ -2,6 +2,7 @@
 ghost use Rattle.kk_sender.specs.Laws.{CaptureIsSentPlain};
 
 /// A capture is what a sender sends without combinations, before it is cut into datagrams.
+#[tactic(auto, unfolding(crate::specs::SentFrames::packed))]
 pub fn capture_is_sent_plain()
     ensures { CaptureIsSentPlain }
 {}

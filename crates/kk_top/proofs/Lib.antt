@@ -7,3 +7,6 @@ pub mod Texts
 pub mod Reporting
 pub mod Promises
 pub mod Plans
+pub mod Capturing
+pub mod TicketWords
+pub mod Packs

@@ -7,4 +7,5 @@ pub mod Report
 pub mod Spaces
 pub mod Status
 pub mod Words
+pub mod TicketWord
 pub mod commands

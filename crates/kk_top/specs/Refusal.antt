@@ -1,11 +1,13 @@
 -- Why a command is refused, and the report of a refusal: a line with the cause, and the status.
-use Rattle.std.specs.Prelude.{◌≡◌, ℕ, List, ◌++◌, codes}
+use Rattle.std.specs.Prelude.{◌≡◌, ℕ, Bool, if◌then◌else◌, List, ◌++◌, codes}
 use Rattle.std.specs.Fmt.{decimal}
 use Rattle.kk_code.specs.declared.fault.TicketFault.{TicketFault}
 use Rattle.kk_code.specs.declared.fault.TicketFault.TheVariants.{Shape, Range as PartOutOfRange, NotIrreducible, TooMany}
 use Rattle.kk_words.specs.Arguments.{text_of_name}
 use Rattle.kk_top.specs.declared.refusal.Refusal.{Refusal}
-use Rattle.kk_top.specs.declared.refusal.Refusal.TheVariants.{Words, Ticket, Range, Input, Memory}
+use Rattle.kk_top.specs.declared.refusal.Refusal.TheVariants.{Words, Ticket, Range, Input, Length, Memory}
+use Rattle.kk_sender.specs.declared.fault.FileFault.{FileFault}
+use Rattle.kk_sender.specs.declared.fault.FileFault.TheVariants as file_fault
 use Rattle.kk_outside.specs.Change.{Change}
 use Rattle.kk_outside.specs.Sink.{SinkTold, WasGiven}
 use Rattle.kk_top.specs.Report.{status_line}
@@ -16,6 +18,7 @@ status_of Words = 1
 status_of (Ticket fault) = 2
 status_of (Range name) = 11
 status_of Input = 4
+status_of (Length got more) = 9
 status_of Memory = 8
 
 -- why a word is no ticket
@@ -25,16 +28,26 @@ ticket_cause (PartOutOfRange field) = codes "ticket range " ++ decimal field
 ticket_cause NotIrreducible = codes "ticket not irreducible"
 ticket_cause (TooMany generations) = codes "ticket too many generations " ++ decimal generations
 
+-- how many bytes a source gave that doesn't have as many as the file
+abbrev pub length_cause : ℕ → Bool → List ℕ
+length_cause got more = if more then codes "length more" else codes "length " ++ decimal got
+
 abbrev pub cause : Refusal → List ℕ
 cause Words = codes "words"
 cause (Ticket fault) = ticket_cause fault
 cause (Range name) = codes "range " ++ text_of_name name
 cause Input = codes "input fault"
+cause (Length got more) = length_cause got more
 cause Memory = codes "memory"
 
 -- the whole report
 abbrev pub refusal_text : Refusal → List ℕ
 refusal_text refusal = cause refusal ++ codes "\n" ++ status_line (status_of refusal)
+
+-- why a file isn't read
+abbrev pub refusal_of : FileFault → Refusal
+refusal_of file_fault.Read = Input
+refusal_of (file_fault.Length got more) = Length got more
 
 -- The run ended with the status of this cause, and its report is the cause's.
 pub record IsRefused (why : Refusal) (status : ℕ) (report : Change SinkTold) : Type 0 where

@@ -1,3 +1,4 @@
+pub mod Pack
 pub mod Plan
 pub mod Unpack
 pub mod UnpackExamples

@@ -1,6 +1,8 @@
 //! The calls of the commands, one file each.
+mod pack;
 mod plan;
 mod unpack;
 
+pub use pack::run_pack;
 pub use plan::run_plan;
 pub use unpack::run_unpack;

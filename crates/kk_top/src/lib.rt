@@ -5,6 +5,7 @@ mod block;
 mod commands;
 mod delivery;
 mod lines;
+mod packing;
 mod program;
 mod receive;
 mod refusal;
@@ -16,6 +17,6 @@ mod totals;
 mod unpacking;
 mod words;
 
-pub use commands::{run_plan, run_unpack};
+pub use commands::{run_pack, run_plan, run_unpack};
 pub use kk_outside::Alloc;
 pub use program::run;

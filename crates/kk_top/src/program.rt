@@ -4,21 +4,23 @@ ghost use Rattle.kk_outside.specs.Change.{change};
 ghost use Rattle.kk_top.specs.Command.{texts, MayTouchFile};
 ghost use Rattle.kk_top.specs.Refusal.{IsRefused};
 ghost use Rattle.kk_top.specs.Words.{named_in};
+ghost use Rattle.kk_top.specs.commands.Pack.{Packs};
 ghost use Rattle.kk_top.specs.commands.Plan.{Plans};
 ghost use Rattle.kk_top.specs.commands.Unpack.{Unpacks};
 
 use crate::refusal::Refusal;
 use crate::report::refuse;
 use crate::words::command_in;
-use crate::{run_plan, run_unpack};
+use crate::{run_pack, run_plan, run_unpack};
 use kk_outside::{Gate, Outlet, Sink, Source};
 use kk_words::Command;
 use std::alloc::Global;
 
 /// Runs the command that the words name, and answers its status.
 ///
-/// `words` are those of the command line, without the program's name. The commands so far are `plan` and `unpack`. `_rt` is
-/// the runtime, with no bound: nothing can be printed or opened by it. `_gates` and `_outlet` are for commands to come.
+/// `words` are those of the command line, without the program's name. The commands so far are `plan`, `pack` and `unpack`.
+/// `_rt` is the runtime, with no bound: nothing can be printed or opened by it. `_gates` and `_outlet` are for commands to
+/// come.
 pub fn run<R, S: Source, K: Sink, P: Sink, G: Gate + Send, O: Outlet>(
     _rt: &R,
     alloc: Global,
@@ -37,7 +39,8 @@ pub fn run<R, S: Source, K: Sink, P: Sink, G: Gate + Send, O: Outlet>(
         → Plans (texts words.now) (change (S.told source.old) (S.told source.new))
         (change (K.told file.old) (K.told file.new)) (change (P.told report.old) (P.told report.new)) result }
     ensures packs { named_in (texts words.now) ≡ Some Command.Pack
-        → IsRefused Refusal.Words result (change (P.told report.old) (P.told report.new)) }
+        → Packs (texts words.now) (change (S.told source.old) (S.told source.new))
+        (change (K.told file.old) (K.told file.new)) (change (P.told report.old) (P.told report.new)) result }
     ensures unpacks { named_in (texts words.now) ≡ Some Command.Unpack
         → Unpacks (texts words.now) (change (S.told source.old) (S.told source.new))
         (change (K.told file.old) (K.told file.new)) (change (P.told report.old) (P.told report.new)) result }
@@ -55,8 +58,7 @@ pub fn run<R, S: Source, K: Sink, P: Sink, G: Gate + Send, O: Outlet>(
     };
     match command {
         Command::Plan => run_plan(alloc, words, source, file, report),
-        // Not built yet.
-        Command::Pack => refuse(Refusal::Words, report),
+        Command::Pack => run_pack(alloc, words, source, file, report),
         Command::Unpack => run_unpack(alloc, words, source, file, report),
     }
 }

@@ -1,10 +1,11 @@
 //! Why a command is refused.
 ghost use Rattle.std.specs.Prelude.{◌≡◌, ◌≤◌};
 ghost use Rattle.arrayvec.specs.ArrayString.{array_string_len};
-ghost use Rattle.kk_top.specs.Refusal.{status_of, cause, ticket_cause, refusal_text};
+ghost use Rattle.kk_top.specs.Refusal.{status_of, cause, ticket_cause, length_cause, refusal_of, refusal_text};
 
 use crate::lines::{Line, line_of, numbered, status_line};
 use kk_code::TicketFault;
+use kk_sender::FileFault;
 use kk_words::Name;
 
 /// Why a command is refused. Its report has a line with the cause, and the status.
@@ -18,8 +19,26 @@ pub(crate) enum Refusal {
     Range(Name),
     /// The source failed.
     Input,
+    /// The source doesn't have as many bytes as the file.
+    Length {
+        /// How many bytes it gave.
+        got: u64,
+        /// Whether these are more than the file has.
+        more: bool,
+    },
     /// There is no memory.
     Memory,
+}
+
+impl From<FileFault> for Refusal {
+    ghost from_gives = { λ fault refusal. refusal ≡ refusal_of fault };
+
+    fn from(fault: FileFault) -> Refusal {
+        match fault {
+            FileFault::Read => Refusal::Input,
+            FileFault::Length { got, more } => Refusal::Length { got, more },
+        }
+    }
 }
 
 impl Refusal {
@@ -32,6 +51,7 @@ impl Refusal {
             Refusal::Ticket(_) => 2,
             Refusal::Range(_) => 11,
             Refusal::Input => 4,
+            Refusal::Length { .. } => 9,
             Refusal::Memory => 8,
         }
     }
@@ -56,8 +76,21 @@ impl Refusal {
             Refusal::Ticket(fault) => ticket_cause(fault),
             Refusal::Range(Name::Most) => line_of("range most"),
             Refusal::Input => line_of("input fault"),
+            Refusal::Length { got, more } => length_cause(got, more),
             Refusal::Memory => line_of("memory"),
         }
+    }
+}
+
+/// How many bytes a source gave that doesn't have as many as the file, without a line feed.
+fn length_cause(got: u64, more: bool) -> Line
+    ensures text { result.bytes ≡ length_cause got more }
+    ensures short { array_string_len result ≤ 48 }
+{
+    if more {
+        line_of("length more")
+    } else {
+        numbered("length ", got)
     }
 }
 

@@ -1,5 +1,7 @@
 ghost use Rattle.std.specs.Prelude.{◌<◌};
 
+mod pack;
+
 use super::*;
 use kk_outside::{MemoryGate, MemoryOutlet, MemorySink, MemorySource, Source, StdSource};
 use std::alloc::{AllocError, Global};
