@@ -1,5 +1,5 @@
 -- What a gate tells, and what one of its calls does to that.
-use Rattle.std.specs.Prelude.{◌≡◌, ℕ, ◌≤◌, List, [], ◌∷◌, ◌++◌, length, take, Option, Some, None, Result, Ok, Err, IfOk}
+use Rattle.std.specs.Prelude.{◌≡◌, ℕ, ◌<◌, ◌≤◌, List, [], ◌∷◌, ◌++◌, length, take, drop, Option, Some, None, Result, Ok, Err, IfOk}
 use Rattle.std.specs.Option.{option_map}
 use Rattle.kk_outside.specs.Change.{Change}
 use Rattle.kk_outside.specs.declared.event.Event.{Event}
@@ -13,6 +13,10 @@ pub record GateTold : Type 0 where
   pub left : Option (List Event)
   pub events : List Event
   pub faults : ℕ
+
+-- its count of faults rose
+abbrev pub GateFailed : Change GateTold → Type 0
+GateFailed gate = gate.old.faults < gate.new.faults
 
 -- these events, and then the known ones
 abbrev pub prepend_events : List Event → Option (List Event) → Option (List Event)
@@ -45,6 +49,15 @@ pub record TellsFrom {E : Type 0} (gate : Change GateTold) (result : Result Got 
   pub first : gate.old.left ≡ prepend_events (events_of result buf) gate.new.left
   pub over : events_of result buf ≡ [] → IsOver gate.new.left
   pub logged : gate.new.events ≡ gate.old.events ++ events_of result buf
+
+-- the events that the calls of a call told
+abbrev pub events_told : Change GateTold → List Event
+events_told gate = drop (length gate.old.events) gate.new.events
+
+-- These events were taken of the gate: its calls told them, and they were the first of those that it had left.
+pub record TookEvents (events : List Event) (gate : Change GateTold) : Type 0 where
+  pub logged : gate.new.events ≡ gate.old.events ++ events
+  pub left : gate.old.left ≡ prepend_events events gate.new.left
 
 -- a datagram fits the buffer of a gate
 abbrev pub FitsGate : Event → Type 0

@@ -1,0 +1,47 @@
+-- What a gate tells, and what an outlet tells, over one call after another.
+use Rattle.std.proofs.Common.{◌≡◌, ℕ, List, [], ◌++◌, length, drop, Option, Some, None, Result, refl, ap, sym, ◌∙◌, append_assoc}
+use Rattle.std.proofs.lemmas.List.{append-nil, drop_at}
+use Rattle.kk_outside.specs.Change.{Change, change}
+use Rattle.kk_outside.specs.declared.event.Event.{Event}
+use Rattle.kk_outside.specs.declared.got.Got.{Got}
+use Rattle.kk_outside.specs.Gate.{GateTold, prepend_events, events_of, events_told, TellsFrom, TookEvents}
+use Rattle.kk_outside.specs.Outlet.{append_datagrams}
+
+prepend_events-prepend_events : (a b : List Event) (o : Option (List Event)) → prepend_events a (prepend_events b o) ≡ prepend_events (a ++ b) o
+prepend_events-prepend_events a b None = refl
+prepend_events-prepend_events a b (Some xs) = ap Some (sym (append_assoc a b xs))
+
+prepend_events-nil : (o : Option (List Event)) → prepend_events [] o ≡ o
+prepend_events-nil None = refl
+prepend_events-nil (Some xs) = refl
+
+-- events that were taken, and then others
+pub TookEvents-append : (a b : List Event) (start now end : GateTold) → TookEvents a (change start now) → TookEvents b (change now end) → TookEvents (a ++ b) (change start end)
+TookEvents-append a b start now end first second = record {
+  logged = second.logged ∙ ap (λ (l : List Event). l ++ b) first.logged ∙ append_assoc start.events a b;
+  left = first.left ∙ ap (λ (o : Option (List Event)). prepend_events a o) second.left ∙ prepend_events-prepend_events a b end.left;
+}
+
+pub TookEvents-nothing : (now : GateTold) → TookEvents [] (change now now)
+TookEvents-nothing now = record {
+  logged = sym (append-nil now.events);
+  left = sym (prepend_events-nil now.left);
+}
+
+-- one call
+pub TookEvents-next : {E : Type 0} (gate : Change GateTold) (result : Result Got E) (buf : List ℕ) → TellsFrom gate result buf → TookEvents (events_of result buf) gate
+TookEvents-next gate result buf tells = record { logged = tells.logged; left = tells.first }
+
+-- the events that were taken are those that the calls told
+pub events_told-took : (events : List Event) (gate : Change GateTold) → TookEvents events gate → events_told gate ≡ events
+events_told-took events gate took =
+    ap (λ (l : List Event). drop (length gate.old.events) l) took.logged ∙ drop_at gate.old.events events (length gate.old.events) refl
+
+-- datagrams that were sent, and then others
+pub append_datagrams-append : (o : Option (List (List ℕ))) (a b : List (List ℕ)) → append_datagrams (append_datagrams o a) b ≡ append_datagrams o (a ++ b)
+append_datagrams-append None a b = refl
+append_datagrams-append (Some xs) a b = ap Some (append_assoc xs a b)
+
+pub append_datagrams-nil : (o : Option (List (List ℕ))) → append_datagrams o [] ≡ o
+append_datagrams-nil None = refl
+append_datagrams-nil (Some xs) = ap Some (append-nil xs)
