@@ -3,3 +3,5 @@ pub mod Readings
 pub mod Stops
 pub mod Intakes
 pub mod Captures
+pub mod Generations
+pub mod Batches

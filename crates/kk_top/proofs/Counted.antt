@@ -12,7 +12,8 @@ use Rattle.kk_rows.specs.Space.{Space}
 use Rattle.kk_rows.proofs.Dimensions.{dimension-same_span, dimension-le_length, in_span_innovative}
 use Rattle.kk_code.specs.Codeword.{width}
 use Rattle.kk_code.specs.Ticket.{TicketFields, generations}
-use Rattle.kk_top.specs.Answers.{rows_of, frozen}
+use Rattle.kk_frame.specs.Generation.{rows_of}
+use Rattle.kk_top.specs.Answers.{frozen}
 use Rattle.kk_top.specs.Spaces.{Spans, AreSpanned, no_space}
 
 pub rank_is : (w : ℕ) (space : Space) (vectors : List (ℕ × ℕ)) (g : ℕ) → Spans w space (rows_of g vectors) → dimension space.rows ≡ dimension (frozen vectors g)

@@ -1,43 +1,22 @@
 -- The row spaces of a receiver, one data frame after another, and what they decode to.
-use Rattle.std.proofs.Common.{◌≡◌, ◌≢◌, ◌⊎◌, inl, inr, subst, ℕ, ◌+◌, ◌<◌, true, false, cond, eqb, List, [], ◌∷◌, ◌++◌, length, get_or, All, take, refl, ap, sym, ◌∙◌, arith, get_or-set_same, get_or-set_other}
+use Rattle.std.proofs.Common.{◌≡◌, ◌≢◌, ◌⊎◌, inl, inr, subst, ℕ, ◌<◌, List, [], ◌∷◌, ◌++◌, length, get_or, ap, sym, ◌∙◌, arith, get_or-set_same, get_or-set_other}
 use Rattle.std.specs.Prelude.{map}
-use Rattle.std.proofs.Math.ListN.{set, length-set, get_or-map as get_or-see}
-use Rattle.std.proofs.lemmas.List.{same_lists, length-map, get_or-map, take_more}
+use Rattle.std.proofs.Math.ListN.{set, length-set}
+use Rattle.std.proofs.lemmas.List.{same_lists, length-map, get_or-map}
 use Rattle.std.proofs.lemmas.List.FromFn.{length-map-range_with_len, get_or-map-range_with_len}
 use Rattle.std.proofs.lemmas.Bool.{cases_eq}
-use Rattle.std.proofs.lemmas.Bool.Decides.{nat_tests}
 use Rattle.kk_rows.specs.Span.{in_span}
 use Rattle.kk_rows.specs.Space.{Space}
-use Rattle.kk_rows.specs.declared.rows.Row.{Row}
 use Rattle.kk_rows.proofs.Spans.{in_span-inserted}
 use Rattle.kk_rows.proofs.Dimensions.{in_span_innovative}
 use Rattle.kk_code.specs.Codeword.{Parameters, width}
 use Rattle.kk_code.specs.Decoding.{answer}
 use Rattle.kk_code.specs.Ticket.{TicketFields, generations}
-use Rattle.kk_frame.specs.Frame.{Vector, IsFrame}
-use Rattle.kk_frame.specs.FrameView.{pairs}
-use Rattle.kk_top.specs.Answers.{rows_of, frozen, answers}
+use Rattle.kk_frame.specs.Generation.{rows_of}
+use Rattle.kk_frame.proofs.Generations.{rows_of-push_same, rows_of-push_other}
+use Rattle.kk_top.specs.Answers.{frozen, answers}
 use Rattle.kk_top.specs.Spaces.{Spans, AreSpanned, no_space}
 use Rattle.kk_decode.proofs.Answering.{answer-same_span}
-
--- one data frame more
-pub rows_of-push_same : (g : ℕ) (vectors : List (ℕ × ℕ)) (row : ℕ) → rows_of g (vectors ++ (g, row) ∷ []) ≡ rows_of g vectors ++ row ∷ []
-unfolding rows_of
-rows_of-push_same g [] row = let yes : eqb g g ≡ true = grind (arith, nat_tests) in rw yes refl
-rows_of-push_same g (vector ∷ vectors) row =
-    elim (eqb vector.0 g) as (λ b. cond b (vector.1 ∷ rows_of g (vectors ++ (g, row) ∷ [])) (rows_of g (vectors ++ (g, row) ∷ [])) ≡ cond b (vector.1 ∷ rows_of g vectors) (rows_of g vectors) ++ row ∷ []) [
-      | true ↦ ap (λ (rows : List ℕ). vector.1 ∷ rows) (rows_of-push_same g vectors row)
-      | false ↦ rows_of-push_same g vectors row
-    ]
-
-pub rows_of-push_other : (g : ℕ) (vectors : List (ℕ × ℕ)) (generation row : ℕ) → generation ≢ g → rows_of g (vectors ++ (generation, row) ∷ []) ≡ rows_of g vectors
-unfolding rows_of
-rows_of-push_other g [] generation row other = let no : eqb generation g ≡ false = grind (arith, nat_tests) in rw no refl
-rows_of-push_other g (vector ∷ vectors) generation row other =
-    elim (eqb vector.0 g) as (λ b. cond b (vector.1 ∷ rows_of g (vectors ++ (generation, row) ∷ [])) (rows_of g (vectors ++ (generation, row) ∷ [])) ≡ cond b (vector.1 ∷ rows_of g vectors) (rows_of g vectors)) [
-      | true ↦ ap (λ (rows : List ℕ). vector.1 ∷ rows) (rows_of-push_other g vectors generation row other)
-      | false ↦ rows_of-push_other g vectors generation row other
-    ]
 
 -- a row into the space of these rows
 Spans-inserted : (w : ℕ) (old new : Space) (rows : List ℕ) (row : ℕ) → Spans w old rows → new.width ≡ old.width → ((x : ℕ) → in_span new.rows x ≡ in_span (old.rows ++ row ∷ []) x) → Spans w new (rows ++ row ∷ [])
@@ -67,21 +46,6 @@ AreSpanned-push t spaces vectors g row new spanned within wide grown = record {
   count = length-set spaces g new ∙ spanned.count;
   each = λ h below. spans_after t spaces vectors g row new spanned within (Spans-inserted (width t.code) (get_or spaces g no_space) new (rows_of g vectors) row (spanned.each g within) wide grown) h below (cases_eq h g);
 }
-
--- ---- the data frames of a batch
-
-pub in_batch : (t : TicketFields) (frames : List (ℕ × Row)) (batch : List (ℕ × ℕ)) (i : ℕ) (d : ℕ × Row) → pairs frames ≡ batch → All (λ f. IsFrame t (Vector f.0 f.1)) batch → i < length frames → IsFrame t (Vector (get_or frames i d).0 (get_or frames i d).1.0)
-in_batch t frames batch i d are all within =
-    let see : ℕ × Row → ℕ × ℕ = λ f. (f.0, f.1.0) in
-    let at : get_or batch i (see d) ≡ see (get_or frames i d) = ap (λ l. get_or l i (see d)) (sym are) ∙ get_or-see see frames i d in
-    let inside : i < length batch = omega (arith, within, ap length are, length-map frames see) in
-    subst (λ f. IsFrame t (Vector f.0 f.1)) at (all i (see d) inside)
-
--- the first i + 1 frames of a batch
-pub batch_more : (frames : List (ℕ × Row)) (i : ℕ) (d : ℕ × Row) → i < length frames → take (i + 1) (pairs frames) ≡ take i (pairs frames) ++ ((get_or frames i d).0, (get_or frames i d).1.0) ∷ []
-batch_more frames i d within =
-    let see : ℕ × Row → ℕ × ℕ = λ f. (f.0, f.1.0) in
-    take_more (pairs frames) i (see d) (omega (arith, within, length-map frames see)) ∙ ap (λ f. take i (pairs frames) ++ f ∷ []) (get_or-see see frames i d)
 
 -- ---- what the spaces decode to
 

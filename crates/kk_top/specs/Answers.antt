@@ -1,19 +1,15 @@
 -- What the data frames that a receiver took decode to.
-use Rattle.std.specs.Prelude.{ℕ, ◌==◌, Bool, if◌then◌else◌, Option, List, [], ◌∷◌, length, map, sum_by, is_some}
+use Rattle.std.specs.Prelude.{ℕ, Bool, Option, List, length, map, sum_by, is_some}
 use Rattle.std.specs.List.{range_with_len}
 use Rattle.std.specs.Option.{option_map}
 use Rattle.kk_rows.specs.Span.{innovative, dimension}
 use Rattle.kk_code.specs.Decoding.{answer}
 use Rattle.kk_code.specs.Ticket.{TicketFields, generations}
+use Rattle.kk_frame.specs.Generation.{rows_of}
 use Rattle.kk_assemble.specs.FileBits.{joined}
 use Rattle.kk_assemble.specs.Messages.{all_messages}
 use Rattle.kk_top.specs.declared.totals.Totals.{Totals}
 use Rattle.kk_top.specs.Report.{unfrozen_totals}
-
--- the rows of generation g, in order
-unfoldable pub rows_of : ℕ → List (ℕ × ℕ) → List ℕ
-rows_of g [] = []
-rows_of g (vector ∷ vectors) = if vector.0 == g then vector.1 ∷ rows_of g vectors else rows_of g vectors
 
 -- the frozen space of generation g, by the rows that raised its dimension
 abbrev pub frozen : List (ℕ × ℕ) → ℕ → List ℕ

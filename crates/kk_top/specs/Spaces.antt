@@ -12,7 +12,7 @@ use Rattle.kk_frame.specs.declared.frame.TheConstants.{FRAME_BYTES}
 use Rattle.kk_frame.specs.declared.gate_count.GateCount.{GateCount}
 use Rattle.kk_frame.specs.Events.{taken}
 use Rattle.kk_frame.specs.Intake.{IntakeState, IsAfter}
-use Rattle.kk_top.specs.Answers.{rows_of}
+use Rattle.kk_frame.specs.Generation.{rows_of}
 use Rattle.kk_top.specs.commands.Unpack.{vectors_of, counts_of, ReadsUpToStop, LeavesRemainder}
 
 -- a space of rows of this width, which these rows span

@@ -12,7 +12,7 @@ use Rattle.kk_frame.specs.Events.{end_with, shortest_prefix}
 use Rattle.kk_frame.specs.FrameExamples.{capture}
 use Rattle.kk_assemble.specs.FileBits.{number_from}
 use Rattle.kk_assemble.specs.Messages.{all_messages}
-use Rattle.kk_top.specs.Answers.{rows_of}
+use Rattle.kk_frame.specs.Generation.{rows_of}
 use Rattle.kk_top.specs.commands.Unpack.{unpacked, read_length}
 
 pub capture_unpacks : unpacked one_byte 10 capture ≡ Some (160 ∷ [])

@@ -10,7 +10,8 @@ use Rattle.kk_frame.specs.declared.frame.TheConstants.{FRAME_BYTES}
 use Rattle.kk_frame.specs.Events.{taken}
 use Rattle.kk_frame.specs.FrameView.{pairs}
 use Rattle.kk_top.specs.Spaces.{AreSpanned, no_space}
-use Rattle.kk_top.proofs.Spanned.{AreSpanned-push, in_batch, batch_more}
+use Rattle.kk_frame.proofs.Batches.{in_batch, batch_more}
+use Rattle.kk_top.proofs.Spanned.{AreSpanned-push}
 use Rattle.kk_top.proofs.receive.take_datagram.Goals as goal
 
 -- what a batch is read as past its end

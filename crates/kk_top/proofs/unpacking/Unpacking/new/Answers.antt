@@ -1,5 +1,5 @@
 use Rattle.std.proofs.Common.{arith}
-use Rattle.kk_top.specs.Answers.{rows_of}
+use Rattle.kk_frame.specs.Generation.{rows_of}
 use Rattle.kk_top.specs.Spaces.{no_space}
 use Rattle.kk_top.proofs.unpacking.Unpacking.new.Goals as goal
 
