@@ -1,0 +1,91 @@
+-- A gate that is asked once more.
+use Rattle.std.proofs.Common.{◌≡◌, ℕ, true, false, List, [], ◌∷◌, ◌++◌, Option, Some, None, refl, ap, sym, subst, ◌∙◌}
+use Rattle.std.specs.Prelude.{is_none, IfSome}
+use Rattle.std.proofs.lemmas.Bool.{false≢true}
+use Rattle.std.proofs.lemmas.List.{append-nil}
+use Rattle.kk_outside.specs.Change.{change}
+use Rattle.kk_outside.specs.declared.event.Event.{Event}
+use Rattle.kk_outside.specs.Gate.{GateTold, TookEvents, IsOver}
+use Rattle.kk_outside.proofs.Taken.{TookEvents-append, TookEvents-nothing}
+use Rattle.kk_code.specs.Ticket.{TicketFields}
+use Rattle.kk_frame.specs.declared.frame.TheConstants.{FRAME_BYTES}
+use Rattle.kk_frame.specs.declared.gate_count.Ended.{Ended}
+use Rattle.kk_frame.specs.declared.gate_count.Ended.TheVariants as ended
+use Rattle.kk_frame.specs.declared.limits.Limits.{Limits}
+use Rattle.kk_frame.specs.Events.{stop, taken, counts}
+use Rattle.kk_frame.specs.Intake.{IntakeState, IsAfter, is_running}
+use Rattle.kk_frame.proofs.Intakes.{ended_tells, ended_stops, taken-none}
+use Rattle.kk_relay.specs.Progress.{RoseWhere, HasAsked}
+
+not_failed : (o : Option Ended) → is_none o ≡ true → o ≡ Some ended.Fault → ⊥
+not_failed None h is = cc
+not_failed (Some e) h is = false≢true h
+
+every : {A : Type 0} (P : A → Type 0) (o : Option A) → ((x : A) → P x) → IfSome o P
+every P None h = tt
+every P (Some x) h = h x
+
+-- before any call
+pub HasAsked-start : (t : TicketFields) (now : GateTold) (intake : IntakeState) → ((u : TicketFields) → IsAfter u [] intake) → is_running intake ≡ true → HasAsked t (change now now) [] [] intake
+HasAsked-start t now intake after running = record {
+  took = TookEvents-nothing now;
+  all = (after t).all;
+  frames_are = taken-none FRAME_BYTES t intake.limits;
+  running = λ _. after t;
+  counts_are = λ over. absurd (false≢true (sym over ∙ running));
+  whole = λ over. absurd (false≢true (sym over ∙ running));
+  cause = record { rose = λ is. absurd (not_failed intake.counts.ended running is); kept = λ _. refl };
+}
+
+-- the count of faults over the calls before and one more
+cause_after : (old new : IntakeState) (first second third : ℕ) → is_running old ≡ true → RoseWhere (old.counts.ended ≡ Some ended.Fault) first second → RoseWhere (new.counts.ended ≡ Some ended.Fault) second third → RoseWhere (new.counts.ended ≡ Some ended.Fault) first third
+cause_after old new first second third running before now =
+    let same : second ≡ first = before.kept (not_failed old.counts.ended running) in
+    subst (λ n. RoseWhere (new.counts.ended ≡ Some ended.Fault) n third) same now
+
+-- an event
+pub HasAsked-event : (t : TicketFields) (origin now end : GateTold) (events : List Event) (frames more : List (ℕ × ℕ)) (event : Event) (old new : IntakeState) → HasAsked t (change origin now) events frames old → is_running old ≡ true → TookEvents (event ∷ []) (change now end) → (IsAfter t events old → IsAfter t (events ++ event ∷ []) new) → (IsAfter t events old → taken FRAME_BYTES t old.limits (events ++ event ∷ []) ≡ taken FRAME_BYTES t old.limits events ++ more) → new.limits ≡ old.limits → RoseWhere (new.counts.ended ≡ Some ended.Fault) now.faults end.faults → HasAsked t (change origin end) (events ++ event ∷ []) (frames ++ more) new
+HasAsked-event t origin now end events frames more event old new asked running took after taking limits cause =
+    let next = after (asked.running running) in
+    record {
+      took = TookEvents-append events (event ∷ []) origin now end asked.took took;
+      all = next.all;
+      frames_are =
+          ap (λ l. taken FRAME_BYTES t l (events ++ event ∷ [])) limits
+          ∙ taking (asked.running running)
+          ∙ ap (λ (l : List (ℕ × ℕ)). l ++ more) asked.frames_are;
+      running = λ _. next;
+      counts_are = λ over. ended_tells t (events ++ event ∷ []) new next over;
+      whole = λ over. every (λ l. stop FRAME_BYTES t new.limits ((events ++ event ∷ []) ++ l) ≡ events ++ event ∷ []) end.left (λ l. ended_stops t (events ++ event ∷ []) l new next over);
+      cause = cause_after old new origin.faults now.faults end.faults running asked.cause cause;
+    }
+
+over_there : (t : TicketFields) (limits : Limits) (events : List Event) (left : Option (List Event)) → stop FRAME_BYTES t limits events ≡ events → IsOver left → IfSome left (λ more. stop FRAME_BYTES t limits (events ++ more) ≡ events)
+over_there t limits events None all over = tt
+over_there t limits events (Some more) all over = ap (λ (l : List Event). stop FRAME_BYTES t limits (events ++ l)) over ∙ ap (stop FRAME_BYTES t limits) (append-nil events) ∙ all
+
+-- no more events
+pub HasAsked-over : (t : TicketFields) (origin now end : GateTold) (events : List Event) (frames : List (ℕ × ℕ)) (old new : IntakeState) → HasAsked t (change origin now) events frames old → is_running old ≡ true → TookEvents [] (change now end) → IsOver end.left → (IsAfter t events old → new.counts ≡ counts FRAME_BYTES t old.limits events) → new.counts.ended ≡ Some ended.Over → new.limits ≡ old.limits → end.faults ≡ now.faults → HasAsked t (change origin end) (events ++ []) (frames ++ []) new
+HasAsked-over t origin now end events frames old new asked running took over counting is limits faults =
+    let stays = is_running new ≡ true in
+    let ended_now : is_running new ≡ false = ap is_none is in
+    let all : stop FRAME_BYTES t new.limits (events ++ []) ≡ events ++ [] = ap (λ l. stop FRAME_BYTES t l (events ++ [])) limits ∙ ap (stop FRAME_BYTES t old.limits) (append-nil events) ∙ asked.all ∙ sym (append-nil events) in
+    record {
+      took = TookEvents-append events [] origin now end asked.took took;
+      all = all;
+      frames_are =
+          ap (λ l. taken FRAME_BYTES t l (events ++ [])) limits
+          ∙ ap (taken FRAME_BYTES t old.limits) (append-nil events)
+          ∙ asked.frames_are
+          ∙ sym (append-nil frames);
+      running = λ on. absurd (false≢true (sym ended_now ∙ on));
+      counts_are = λ _. counting (asked.running running) ∙ ap (λ l. counts FRAME_BYTES t l events) (sym limits) ∙ ap (counts FRAME_BYTES t new.limits) (sym (append-nil events));
+      whole = λ _. over_there t new.limits (events ++ []) end.left all over;
+      cause = cause_after old new origin.faults now.faults end.faults running asked.cause (record {
+        rose = λ fault. absurd (other fault);
+        kept = λ _. faults;
+      });
+    }
+  where
+    other : new.counts.ended ≡ Some ended.Fault → ⊥
+    other fault = absurd (cc)

@@ -1,0 +1,6 @@
+pub mod Bases
+pub mod Relays
+pub mod Sends
+pub mod Steps
+pub mod Events
+pub mod Outcomes

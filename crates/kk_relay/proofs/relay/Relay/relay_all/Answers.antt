@@ -1,0 +1,94 @@
+use Rattle.std.proofs.Common.{◌≢◌, ◌++◌, Some, ap, sym, ◌∙◌, arith}
+use Rattle.kk_outside.specs.Change.{change}
+use Rattle.kk_frame.specs.declared.gate_count.Ended.TheVariants as ended
+use Rattle.kk_frame.specs.declared.gate_count.GateCount.{GateCount}
+use Rattle.kk_relay.specs.Relaying.{is_failure}
+use Rattle.kk_relay.specs.Progress.{frames_of}
+use Rattle.kk_relay.proofs.Outcomes.{Run-start, Run-next, Run-few, asks, without_end_of_all, cut_told, cut_of_all, ends_short, of_datagram}
+use Rattle.kk_relay.proofs.relay.Relay.relay_all.Goals as goal
+use Rattle.kk_relay.proofs.relay.Relay.relay_all.Goals.{After-relay_frames}
+
+pub loop-buf-init : goal.loop-buf-init
+loop-buf-init g c = Run-start c.args.ticket.now c.args.limits.now c.args.rate (g.R.Rng.stream c.args.rng.now) (g.G.Gate.told c.args.gate.now) (g.O.Outlet.told c.args.outlet.now) c.new-intake.result c.args.self.now c.new-intake.ensures.limits c.new-intake.ensures.after c.new-intake.ensures.running c.requires.empty
+
+pub loop-buf-preserved : goal.loop-buf-preserved
+loop-buf-preserved g c =
+    let t = c.args.ticket.now in
+    let start = g.R.Rng.stream c.args.rng.now in
+    let gate = g.G.Gate.told in
+    let outlet = g.O.Outlet.told in
+    let loop = c.loop-buf in
+    let run = loop.invariant in
+    let before = change (gate c.args.gate.now) (gate loop.gate) in
+    let so_far = change (outlet c.args.outlet.now) (outlet loop.outlet) in
+    let asked = c.next_frames-frames.ensures.asked (gate c.args.gate.now) run.events run.frames run.asked in
+    Run-next t c.args.limits.now c.args.rate start (gate c.args.gate.now) (gate c.next_frames-frames.new.gate) (outlet c.args.outlet.now) (outlet c.relay_frames.new.outlet) loop.intake c.next_frames-frames.new.intake loop.self c.relay_frames.new.self (g.R.Rng.stream loop.rng) (g.R.Rng.stream c.relay_frames.new.rng) loop.sent c.in-Ok.more before so_far (frames_of c.next_frames-frames.result) run asked.0 asked.1 c.next_frames-frames.ensures.limits
+    (c.in-Ok.ensures.relayed start run.frames (outlet c.args.outlet.now) run.progress)
+    (c.in-Ok.ensures.count start run.frames (outlet c.args.outlet.now) run.progress)
+    (c.in-Ok.ensures.cause.kept ∙ run.same)
+
+pub overflow_add-sent : goal.overflow_add-sent
+overflow_add-sent g c =
+    let loop = c.loop-buf in
+    let few = Run-few c.args.ticket.now c.args.limits.now c.args.rate (g.R.Rng.stream c.args.rng.now) (change (g.G.Gate.told c.args.gate.now) (g.G.Gate.told loop.gate)) (change (g.O.Outlet.told c.args.outlet.now) (g.O.Outlet.told loop.outlet)) loop.intake loop.self (g.R.Rng.stream loop.rng) loop.sent loop.invariant c.runs.ensures.intake (sym c.runs.ensures.running ∙ c.loop-buf-test.true) c.requires.rate in
+    let q = c.new-intake.type_inv in let r = c.new-intake.auto in let z = c.well_formed in
+    omega (arith, few, c.in-Ok.ensures.few)
+
+-- ---- a send of what is sent for data frames failed
+
+pub returns-in_default-clause-gate_fault : goal.returns-in_default-clause-gate_fault
+returns-in_default-clause-gate_fault g c =
+    let run = c.loop-buf.invariant in
+    let asked = c.next_frames-frames.ensures.asked (g.G.Gate.told c.args.gate.now) run.events run.frames run.asked in
+    let datagram = c.in_default.ensures.some in
+    record {
+      rose = λ e. absurd (cc);
+      kept = λ _. asked.1.cause.kept (λ fault. of_datagram (c.next_frames-frames.new.intake.counts.ended ≢ Some ended.Fault) c.next_frames-frames.result c.in_default.ensures.some c.next_frames-frames.ensures.no_fault fault);
+    }
+
+pub returns-in_default-clause-asked : goal.returns-in_default-clause-asked
+returns-in_default-clause-asked g c =
+    let gate = g.G.Gate.told in
+    let run = c.loop-buf.invariant in
+    let asked = c.next_frames-frames.ensures.asked (gate c.args.gate.now) run.events run.frames run.asked in
+    asks c.args.ticket.now c.args.limits.now (change (gate c.args.gate.now) (gate c.next_frames-frames.new.gate)) (run.events ++ asked.0) (run.frames ++ frames_of c.next_frames-frames.result) c.next_frames-frames.new.intake (c.next_frames-frames.ensures.limits ∙ run.is) asked.1
+
+pub returns-in_default-clause-cut_short : goal.returns-in_default-clause-cut_short
+returns-in_default-clause-cut_short g c = λ is.
+    let gate = g.G.Gate.told in
+    let outlet = g.O.Outlet.told in
+    let start = g.R.Rng.stream c.args.rng.now in
+    let run = c.loop-buf.invariant in
+    let asked = c.next_frames-frames.ensures.asked (gate c.args.gate.now) run.events run.frames run.asked in
+    let off = c.in_default.ensures.breaks_off start run.frames (outlet c.args.outlet.now) run.progress in
+    cut_told c.args.ticket.now c.args.limits.now c.args.rate start (change (gate c.args.gate.now) (gate c.next_frames-frames.new.gate)) (change (outlet c.args.outlet.now) (outlet c.relay_frames.new.outlet)) (run.events ++ asked.0) (run.frames ++ frames_of c.next_frames-frames.result) c.next_frames-frames.new.intake c.relay_frames.new.self (g.R.Rng.stream c.relay_frames.new.rng) (c.next_frames-frames.ensures.limits ∙ run.is) asked.1 off
+
+pub returns-in_default-clause-cut_short_of_all : goal.returns-in_default-clause-cut_short_of_all
+returns-in_default-clause-cut_short_of_all g c = λ is.
+    let gate = g.G.Gate.told in
+    let outlet = g.O.Outlet.told in
+    let start = g.R.Rng.stream c.args.rng.now in
+    let run = c.loop-buf.invariant in
+    let asked = c.next_frames-frames.ensures.asked (gate c.args.gate.now) run.events run.frames run.asked in
+    let off = c.in_default.ensures.breaks_off start run.frames (outlet c.args.outlet.now) run.progress in
+    cut_of_all c.args.ticket.now c.args.limits.now c.args.rate start (change (gate c.args.gate.now) (gate c.next_frames-frames.new.gate)) (change (outlet c.args.outlet.now) (outlet c.relay_frames.new.outlet)) (run.events ++ asked.0) (run.frames ++ frames_of c.next_frames-frames.result) c.next_frames-frames.new.intake c.relay_frames.new.self (g.R.Rng.stream c.relay_frames.new.rng) (c.next_frames-frames.ensures.limits ∙ run.is) asked.1 off
+
+pub returns-in_default-clause-broken_off : goal.returns-in_default-clause-broken_off
+returns-in_default-clause-broken_off g c = λ is.
+    let gate = g.G.Gate.told in
+    let outlet = g.O.Outlet.told in
+    let start = g.R.Rng.stream c.args.rng.now in
+    let run = c.loop-buf.invariant in
+    let asked = c.next_frames-frames.ensures.asked (gate c.args.gate.now) run.events run.frames run.asked in
+    let off = c.in_default.ensures.breaks_off start run.frames (outlet c.args.outlet.now) run.progress in
+    ends_short c.args.ticket.now c.args.limits.now c.args.rate start (change (gate c.args.gate.now) (gate c.next_frames-frames.new.gate)) (change (outlet c.args.outlet.now) (outlet c.relay_frames.new.outlet)) (run.events ++ asked.0) (run.frames ++ frames_of c.next_frames-frames.result) c.next_frames-frames.new.intake c.relay_frames.new.self (g.R.Rng.stream c.relay_frames.new.rng) (c.next_frames-frames.ensures.limits ∙ run.is) asked.1 off
+
+-- ---- the send of END failed
+
+pub returns-in_default-send_frame-clause-cut_short_of_all : goal.returns-in_default-send_frame-clause-cut_short_of_all
+returns-in_default-send_frame-clause-cut_short_of_all g c = λ is.
+    let outlet = g.O.Outlet.told in
+    let loop = c.loop-buf in
+    without_end_of_all c.args.ticket.now c.args.limits.now c.args.rate (g.R.Rng.stream c.args.rng.now) (change (g.G.Gate.told c.args.gate.now) (g.G.Gate.told loop.gate)) (change (outlet c.args.outlet.now) (outlet loop.outlet)) loop.intake loop.self (g.R.Rng.stream loop.rng) loop.sent (outlet c.send_frame.new.outlet) loop.invariant (sym c.runs.ensures.running ∙ c.loop-buf-test.false)
+    (ap is_failure (ap (λ (n : GateCount). n.ended) (sym c.counts-counts.ensures.counts)) ∙ sym c.has_failed.ensures ∙ c.if-has_failed.false)
+    c.in_default-send_frame.ensures.sends.kept

@@ -1,0 +1,6 @@
+pub mod Words
+pub mod Relaying
+pub mod RelayState
+pub mod Progress
+pub mod Laws
+pub mod RelayExamples

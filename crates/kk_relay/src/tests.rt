@@ -1,0 +1,190 @@
+//! Relays under the ticket of a file of one byte.
+ghost use Rattle.std.specs.Prelude.{◌≡◌, ◌+◌, ◌∷◌, [], All, ℕ, min, IfOk, IfSome};
+ghost use Rattle.rand_core.specs.Steps.{stream_of, steps_u64_low};
+ghost use Rattle.kk_code.specs.Ticket.{generations};
+ghost use Rattle.kk_outside.specs.Change.{change};
+ghost use Rattle.kk_outside.specs.Gate.{FitsGate, events_told};
+ghost use Rattle.kk_outside.specs.Outlet.{append_datagrams};
+ghost use Rattle.kk_relay.specs.Relaying.{relay_list};
+ghost use Rattle.kk_relay.specs.Words.{word_at};
+
+use super::*;
+use kk_code::Ticket;
+use kk_frame::{Ended, Limits};
+use kk_outside::{Bytes, Event, Gate, MemoryGate, MemoryOutlet, Outlet};
+use kk_rows::Row;
+use rand_core::utils::NextWord;
+use rand_core::{Rng, utils};
+use std::alloc::{AllocError, Global};
+use std::marker::Model;
+use std::test::Fail;
+
+/// Relays what a gate gives, with one combination for each data frame, and answers how many these were, where nothing failed.
+fn relay_gate<G: Gate, O: Outlet, R: Rng>(
+    alloc: Global,
+    ticket: &Ticket,
+    gate: &mut G,
+    outlet: &mut O,
+    rng: &mut R,
+) -> Option<u64>
+    ensures { IfSome result (λ _. (O.told outlet.new).sent ≡ append_datagrams (O.told outlet.old).sent
+        (relay_list ticket.now (record { idle = 300; most = 1000 }) 1 (word_at (R.stream rng.old)) (events_told (change (G.told gate.old) (G.told gate.new))))) }
+{
+    let limits = Limits {
+        idle: 300,
+        most: 1000,
+    };
+    let mut relay = Relay::new(alloc, ticket).ok()?;
+    let relayed = relay.relay_all(ticket, gate, outlet, rng, 1, &limits).ok()?;
+    Some(relayed.sent)
+}
+
+/// A generator whose words go up by two to 3, and are 3 from then on: of 1 the words 1, 3, 3. A clause sees the next word.
+#[derive(Drop)]
+struct Words(u64);
+
+impl Model for Words {
+    ghost Value = { ℕ };
+
+    ghost view = { λ w. w.0 };
+}
+
+impl NextWord<u64> for Words {
+    ghost step = { λ n. (n, min 3 (n + 2)) };
+
+    fn next_word(&mut self) -> u64 {
+        let word = self.0;
+        self.0 = word.saturating_add(2).min(3);
+        word
+    }
+}
+
+impl Rng for Words {
+    ghost stream = { stream_of (steps_u64_low (λ n. (n, min 3 (n + 2)))) };
+
+    fn next_u32(&mut self) -> u32 {
+        self.next_word() as u32
+    }
+
+    fn next_u64(&mut self) -> u64 {
+        self.next_word()
+    }
+
+    fn fill_bytes(&mut self, dst: &mut [u8]) {
+        utils::fill_bytes_via_u64(self, dst)
+    }
+}
+
+const LIMITS: Limits = Limits { idle: 2, most: 10 };
+
+/// The ticket of a file of one byte: three generations of three rows, each of six bits.
+fn one_byte() -> Result<Ticket, Fail> {
+    Ok(Ticket::read("kk1:00000001:3:0000000000000003:3:1:1")?)
+}
+
+/// A frame of session 1 with this kind, generation and row.
+fn frame(kind: u8, generation: u8, row: u8) -> [u8; 20] {
+    [
+        75, 75, 1, kind, 0, 0, 0, 1, 0, 0, 0, generation, 0, 0, 0, 0, 0, 0, 0, row,
+    ]
+}
+
+/// A datagram of one frame.
+fn datagram(alloc: Global, kind: u8, row: u8) -> Result<Event, AllocError>
+    ensures { IfOk result FitsGate }
+{
+    Ok(Event::Datagram(Bytes::new(frame(kind, 0, row).to_vec(alloc)?)))
+}
+
+/// A gate that gives the rows 13 and 17 of generation 0, and then the last event.
+fn two_rows(alloc: Global, last: Event) -> Result<MemoryGate, Fail>
+    requires { FitsGate last }
+{
+    let mut events = Vec::new(alloc);
+    events.push(datagram(alloc, 0, 13)?)?;
+    events.push(datagram(alloc, 0, 17)?)?;
+    events.push(last)?;
+    Ok(MemoryGate::new(events))
+}
+
+#[test]
+fn two_rows_and_the_end(rt: HostRuntime) -> Result<(), Fail> {
+    let alloc = rt.alloc();
+    let ticket = one_byte()?;
+    let mut gate = two_rows(alloc, datagram(alloc, 1, 0)?)?;
+    let mut outlet = MemoryOutlet::new(alloc, 100, Vec::new(alloc))?;
+    let mut relay = Relay::new(alloc, &ticket)?;
+    let relayed = relay.relay_all(&ticket, &mut gate, &mut outlet, &mut Words(1), 1, &LIMITS)?;
+    assert_eq!(rt; relayed.gate.ended, Some(Ended::End));
+    assert_eq!(rt; relayed.gate.frames, 2);
+    assert_eq!(rt; relayed.innovative, 2);
+    assert_eq!(rt; relayed.sent, 2);
+    assert_eq!(rt; outlet.sent(), 3);
+    assert_eq!(rt; outlet.datagram(0), frame(0, 0, 13).as_slice());
+    assert_eq!(rt; outlet.datagram(1), frame(0, 0, 28).as_slice());
+    assert_eq!(rt; outlet.datagram(2), frame(1, 0, 0).as_slice());
+    assert_eq!(rt; relay.rows(0), [Row(13), Row(17)].as_slice());
+    assert_eq!(rt; relay.rows(1).len(), 0);
+    Ok(())
+}
+
+#[test]
+fn no_end_after_a_fault(rt: HostRuntime) -> Result<(), Fail> {
+    let alloc = rt.alloc();
+    let ticket = one_byte()?;
+    let mut gate = two_rows(alloc, Event::Fault)?;
+    let mut outlet = MemoryOutlet::new(alloc, 100, Vec::new(alloc))?;
+    let mut relay = Relay::new(alloc, &ticket)?;
+    let told = relay.relay_all(&ticket, &mut gate, &mut outlet, &mut Words(1), 1, &LIMITS);
+    assert_eq!(rt; told, Err(RelayFault::Gate));
+    assert_eq!(rt; outlet.sent(), 2);
+    assert_eq!(rt; relay.rows(0), [Row(13), Row(17)].as_slice());
+    Ok(())
+}
+
+#[test]
+fn nothing_is_sent_after_a_send_that_failed(rt: HostRuntime) -> Result<(), Fail> {
+    let alloc = rt.alloc();
+    let ticket = one_byte()?;
+    let mut gate = two_rows(alloc, datagram(alloc, 1, 0)?)?;
+    let mut outlet = MemoryOutlet::new(alloc, 100, [1u64].to_vec(alloc)?)?;
+    let mut relay = Relay::new(alloc, &ticket)?;
+    let told = relay.relay_all(&ticket, &mut gate, &mut outlet, &mut Words(1), 1, &LIMITS);
+    assert_eq!(rt; told, Err(RelayFault::Outlet));
+    assert_eq!(rt; outlet.sent(), 1);
+    assert_eq!(rt; relay.rows(0), [Row(13), Row(17)].as_slice());
+    Ok(())
+}
+
+#[test]
+fn a_rate_of_0_sends_the_end_alone(rt: HostRuntime) -> Result<(), Fail> {
+    let alloc = rt.alloc();
+    let ticket = one_byte()?;
+    let mut gate = two_rows(alloc, Event::Quiet)?;
+    let mut outlet = MemoryOutlet::new(alloc, 100, Vec::new(alloc))?;
+    let mut rng = Words(1);
+    let mut relay = Relay::new(alloc, &ticket)?;
+    let relayed = relay.relay_all(&ticket, &mut gate, &mut outlet, &mut rng, 0, &LIMITS)?;
+    assert_eq!(rt; relayed.gate.ended, Some(Ended::Over));
+    assert_eq!(rt; relayed.sent, 0);
+    assert_eq!(rt; outlet.sent(), 1);
+    assert_eq!(rt; outlet.datagram(0), frame(1, 0, 0).as_slice());
+    assert_eq!(rt; rng.next_u64(), 1);
+    Ok(())
+}
+
+#[test]
+fn a_combination_that_is_the_row_0_is_sent(rt: HostRuntime) -> Result<(), Fail> {
+    let alloc = rt.alloc();
+    let ticket = one_byte()?;
+    let mut gate = two_rows(alloc, datagram(alloc, 1, 0)?)?;
+    let mut outlet = MemoryOutlet::new(alloc, 100, Vec::new(alloc))?;
+    let mut rng = Words(0);
+    assert_eq!(rt;
+        relay_gate(alloc, &ticket, &mut gate, &mut outlet, &mut rng),
+        Some(2)
+    );
+    assert_eq!(rt; outlet.datagram(0), frame(0, 0, 0).as_slice());
+    assert_eq!(rt; outlet.datagram(1), frame(0, 0, 17).as_slice());
+    Ok(())
+}
