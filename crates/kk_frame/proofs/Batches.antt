@@ -1,6 +1,5 @@
 -- The data frames of a batch, one after another.
 use Rattle.std.proofs.Common.{◌≡◌, ℕ, ◌+◌, ◌<◌, List, [], ◌∷◌, ◌++◌, length, get_or, All, take, ap, sym, subst, ◌∙◌, arith}
-use Rattle.std.specs.Prelude.{map}
 use Rattle.std.proofs.Math.ListN.{get_or-map as get_or-see}
 use Rattle.std.proofs.lemmas.List.{length-map, take_more}
 use Rattle.kk_rows.specs.declared.rows.Row.{Row}

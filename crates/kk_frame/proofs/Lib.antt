@@ -5,3 +5,4 @@ pub mod Intakes
 pub mod Captures
 pub mod Generations
 pub mod Batches
+pub mod Packs

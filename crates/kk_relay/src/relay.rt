@@ -1,5 +1,5 @@
 //! A relay.
-ghost use Rattle.std.specs.Prelude.{◌≡◌, ◌+◌, ◌*◌, ◌<◌, ◌≤◌, ◌^◌, ℕ, List, All, Err, IfOk, IfSome, IsSome, OnOk, OnErr, [], ◌∷◌, ◌++◌, length, slice_index_or, slice_set, sum_by};
+ghost use Rattle.std.specs.Prelude.{◌≡◌, ◌↔◌, ◌+◌, ◌*◌, ◌<◌, ◌≤◌, ◌^◌, ℕ, List, All, Some, Err, IfOk, IfSome, IsSome, OnOk, OnErr, [], ◌∷◌, ◌++◌, length, slice_index_or, slice_set, sum_by};
 ghost use Rattle.rand_core.specs.Stream.{Stream};
 ghost use Rattle.kk_rows.specs.Rows.{numbers};
 ghost use Rattle.kk_outside.specs.Causes.{HasCause};
@@ -98,6 +98,8 @@ impl Relay {
         // Which answer comes.
         ensures gate_fault { RoseWhere (result ≡ Err RelayFault.Gate) (G.told gate.old).faults (G.told gate.new).faults }
         ensures outlet_fault { RoseWhere (result ≡ Err RelayFault.Outlet) (O.told outlet.old).faults (O.told outlet.new).faults }
+        ensures at_fault { (result ≡ Err RelayFault.Outlet → ⊥) → ((result ≡ Err RelayFault.Gate)
+            ↔ ((counts FRAME_BYTES ticket.now limits.now (events_told (change (G.told gate.old) (G.told gate.new)))).ended ≡ Some Ended.Fault)) }
 
         // What was asked of the gate: all events up to its stop, and after a fault of the outlet no more than these.
         ensures asked { AsksUpToStop ticket.now limits.now (change (G.told gate.old) (G.told gate.new)) }
