@@ -246,17 +246,17 @@ rows_owned g (e ∷ es) x is = ⊎_elim
     (Contains-append_cases (row_into g e.call) (rows_into g es) x is)
 
 -- sums
-sum_same : (c : ℕ) (F G : ℕ → ℕ) → ((n : ℕ) → n < c → F n ≡ G n) → sum_below c F ≡ sum_below c G
+pub sum_same : (c : ℕ) (F G : ℕ → ℕ) → ((n : ℕ) → n < c → F n ≡ G n) → sum_below c F ≡ sum_below c G
 unfolding sum_below
 sum_same zero F G same = refl
 sum_same (suc c) F G same = omega (arith, same c (omega arith), sum_same c F G (λ n small. same n (omega (arith, small))))
 
-sum_nothing : (c : ℕ) → sum_below c (λ n. 0) ≡ 0
+pub sum_nothing : (c : ℕ) → sum_below c (λ n. 0) ≡ 0
 unfolding sum_below
 sum_nothing zero = refl
 sum_nothing (suc c) = omega (arith, sum_nothing c)
 
-sum_more_at : (c k v : ℕ) (F G : ℕ → ℕ) → k < c → F k ≡ v + G k → ((n : ℕ) → n ≢ k → F n ≡ G n) → sum_below c F ≡ v + sum_below c G
+pub sum_more_at : (c k v : ℕ) (F G : ℕ → ℕ) → k < c → F k ≡ v + G k → ((n : ℕ) → n ≢ k → F n ≡ G n) → sum_below c F ≡ v + sum_below c G
 unfolding sum_below
 sum_more_at zero k v F G small here other = absurd (omega (arith, small))
 sum_more_at (suc c) k v F G small here other = dite (ℕ_discrete k c)

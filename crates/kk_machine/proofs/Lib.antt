@@ -7,6 +7,7 @@ pub mod Runs
 pub mod Inserted
 pub mod Counted
 pub mod Goals
+pub mod Tallies
 pub mod Sights
 pub mod WorldFields
 pub mod LogLists

@@ -3,9 +3,10 @@ use Rattle.std.specs.Prelude.{◌≡◌, ◌⊎◌, ℕ, ◌<◌, ◌≤◌, Lis
 use Rattle.kk_rows.specs.declared.row_space.TheConstants.{MAX_WIDTH}
 use Rattle.kk_rows.specs.Span.{in_span}
 use Rattle.kk_machine.specs.declared.moves.Move.{Move}
+use Rattle.kk_machine.specs.declared.call.Reply.{Reply}
 use Rattle.kk_machine.specs.declared.call.Entry.{Entry}
 use Rattle.kk_machine.specs.History.{log_of, Legal, own}
-use Rattle.kk_machine.specs.Inserts.{rows_into, InTime, tally, in_generation, one_if, innovative, with_rank, late, froze, freezes, sum_below, ClosedLast, FrozenBy}
+use Rattle.kk_machine.specs.Inserts.{rows_into, InTime, tally, in_generation, of_reply, one_if, innovative, with_rank, late, froze, freezes, sum_below, AreBelow, ClosedLast, FrozenBy}
 use Rattle.kk_machine.specs.Goals.{AtGoal}
 use Rattle.kk_machine.specs.World.{new_world, run, history, AllMay, IsOf, StandsFrom}
 
@@ -54,3 +55,8 @@ FreezesWaitForTheGoal =
 abbrev pub TalliesAddUp : Type 0
 TalliesAddUp =
     (count : Entry → ℕ) (c : ℕ) (h : List Entry) → ((n : ℕ) → c ≤ n → own n h ≡ []) → tally count h ≡ sum_below c (λ n. tally count (own n h))
+
+-- where all generations are below n, a count over the replies of a history is the sum of the counts in each generation
+abbrev pub RepliesAddUp : Type 0
+RepliesAddUp =
+    (count : Reply → ℕ) (n : ℕ) (h : List Entry) → AreBelow n h → tally (of_reply count) h ≡ sum_below n (λ g. tally (in_generation g count) h)

@@ -1,5 +1,5 @@
 //! The laws of worlds and of histories. Each function's contract is the law.
-ghost use Rattle.kk_machine.specs.Laws.{EveryRunIsLegal, RepliesAreCounted, TimelyRowsAreSpanned, ClosedLastIsInTime, LogsAreFrozenSpaces, FreezesWaitForTheGoal, TalliesAddUp};
+ghost use Rattle.kk_machine.specs.Laws.{EveryRunIsLegal, RepliesAreCounted, TimelyRowsAreSpanned, ClosedLastIsInTime, LogsAreFrozenSpaces, FreezesWaitForTheGoal, TalliesAddUp, RepliesAddUp};
 
 /// Whatever moves are made in a new world, each allowed when it comes: the calls that they decide are a legal history;
 /// the words of a generation are the rows after this history, then [`crate::CLOSED`] exactly where it is closed, then
@@ -39,4 +39,9 @@ pub fn freezes_wait_for_the_goal()
 /// A count over a history is the sum of the counts over the calls of each number.
 pub fn tallies_add_up()
     ensures { TalliesAddUp }
+{}
+
+/// A count over the replies of a history is the sum of the counts in each generation.
+pub fn replies_add_up()
+    ensures { RepliesAddUp }
 {}
