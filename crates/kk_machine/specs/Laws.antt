@@ -1,12 +1,12 @@
 -- The laws of worlds and histories.
-use Rattle.std.specs.Prelude.{◌≡◌, ◌⊎◌, ℕ, ◌<◌, ◌≤◌, List, [], ◌++◌, length, Contains, Option, Some, None}
+use Rattle.std.specs.Prelude.{◌≡◌, ◌⊎◌, ℕ, ◌+◌, ◌<◌, ◌≤◌, List, [], ◌++◌, length, Contains, Option, Some, None}
 use Rattle.kk_rows.specs.declared.row_space.TheConstants.{MAX_WIDTH}
 use Rattle.kk_rows.specs.Span.{in_span}
 use Rattle.kk_machine.specs.declared.moves.Move.{Move}
 use Rattle.kk_machine.specs.declared.call.Reply.{Reply}
 use Rattle.kk_machine.specs.declared.call.Entry.{Entry}
 use Rattle.kk_machine.specs.History.{log_of, Legal, own}
-use Rattle.kk_machine.specs.Inserts.{rows_into, InTime, tally, in_generation, of_reply, one_if, innovative, with_rank, late, froze, freezes, sum_below, AreBelow, ClosedLast, FrozenBy}
+use Rattle.kk_machine.specs.Inserts.{rows_into, InTime, tally, in_generation, of_reply, inserts, one_if, innovative, redundant, with_rank, late, froze, freezes, sum_below, AreBelow, ClosedLast, FrozenBy}
 use Rattle.kk_machine.specs.Goals.{AtGoal}
 use Rattle.kk_machine.specs.World.{new_world, run, history, AllMay, IsOf, StandsFrom}
 
@@ -60,3 +60,8 @@ TalliesAddUp =
 abbrev pub RepliesAddUp : Type 0
 RepliesAddUp =
     (count : Reply → ℕ) (n : ℕ) (h : List Entry) → AreBelow n h → tally (of_reply count) h ≡ sum_below n (λ g. tally (in_generation g count) h)
+
+-- in a legal history each insert is innovative, redundant or late, and no other call is
+abbrev pub InsertsAreOfThreeKinds : Type 0
+InsertsAreOfThreeKinds =
+    (h : List Entry) → Legal h → tally inserts h ≡ tally (of_reply innovative) h + tally (of_reply redundant) h + tally (of_reply late) h

@@ -1,5 +1,5 @@
 //! The laws of worlds and of histories. Each function's contract is the law.
-ghost use Rattle.kk_machine.specs.Laws.{EveryRunIsLegal, RepliesAreCounted, TimelyRowsAreSpanned, ClosedLastIsInTime, LogsAreFrozenSpaces, FreezesWaitForTheGoal, TalliesAddUp, RepliesAddUp};
+ghost use Rattle.kk_machine.specs.Laws.{EveryRunIsLegal, RepliesAreCounted, TimelyRowsAreSpanned, ClosedLastIsInTime, LogsAreFrozenSpaces, FreezesWaitForTheGoal, TalliesAddUp, RepliesAddUp, InsertsAreOfThreeKinds};
 
 /// Whatever moves are made in a new world, each allowed when it comes: the calls that they decide are a legal history;
 /// the words of a generation are the rows after this history, then [`crate::CLOSED`] exactly where it is closed, then
@@ -44,4 +44,9 @@ pub fn tallies_add_up()
 /// A count over the replies of a history is the sum of the counts in each generation.
 pub fn replies_add_up()
     ensures { RepliesAddUp }
+{}
+
+/// Each insert of a legal history is innovative, redundant or late, and no other call is.
+pub fn inserts_are_of_three_kinds()
+    ensures { InsertsAreOfThreeKinds }
 {}
