@@ -1,0 +1,4 @@
+pub mod Counting
+pub mod Bringing
+pub mod Batches
+pub mod Works

@@ -1,0 +1,77 @@
+use Rattle.std.proofs.Common.{◌≡◌, ◌∙◌, List, [], true, ap, sym, refl, subst, rules}
+use Rattle.kk_outside.specs.Change.{change}
+use Rattle.kk_outside.specs.Gate.{GateTold}
+use Rattle.kk_code.specs.Ticket.{generations}
+use Rattle.kk_frame.specs.Intake.{is_running}
+use Rattle.kk_machine.specs.declared.call.Entry.{Entry}
+use Rattle.kk_machine.specs.Inserts.{tally, of_reply, froze}
+use Rattle.kk_workers.specs.Worker.{WorkerView}
+use Rattle.kk_workers.specs.Works.{SamePass, Worked, FaultCause}
+use Rattle.kk_workers.specs.Working.{Working}
+use Rattle.kk_workers.proofs.Counting.{AreTotals-none}
+use Rattle.kk_workers.proofs.Works.{Working-start, Working-more, Worked-end, FaultCause-start, FaultCause-more, few_inserts, no_answers_kept}
+use Rattle.kk_workers.proofs.working.work.Goals as goal
+
+pub loop-buf-init : goal.loop-buf-init
+loop-buf-init g c =
+    let t = c.args.ticket.now in
+    let W = WorkerView g.row.G.Denot in
+    let told : g.row.G.Denot → GateTold = g.G.Gate.told in
+    let inside = c.worker.inside in
+    let is = c.worker.view_is in
+    let none : inside.pass.known.calls ≡ [] = ap (λ (w : W). w.pass.known.calls) is ∙ c.requires.no_calls in
+    record {
+      same = subst (λ (w : W). SamePass w.pass inside.pass) is (record { table = refl; number = refl; note = refl });
+      working = subst (λ (w : W). Working t c.args.plan.now.limits (change (told w.gate) (told inside.gate)) c.new-intake.result inside.pass.known.calls) is
+          (Working-start t c.args.plan.now.limits (told inside.gate) c.new-intake.result inside.pass.known.calls (c.new-intake.ensures.after t) c.new-intake.ensures.limits c.new-intake.ensures.calls none);
+      totals = AreTotals-none inside.totals inside.pass.known.calls (ap (λ (w : W). w.totals) is ∙ c.requires.no_inserts) none;
+      answers = ap (λ (w : W). w.answers) is;
+      cause = subst (λ (w : W). FaultCause (change (told w.gate) (told inside.gate)) c.new-intake.result.counts) is (FaultCause-start (told inside.gate) c.new-intake.result c.new-intake.ensures.running);
+    }
+
+pub ask-requires-clause-table : goal.ask-requires-clause-table
+ask-requires-clause-table g c = c.loop-buf.invariant.same.table ∙ c.requires.table
+
+pub ask-requires-clause-few : goal.ask-requires-clause-few
+ask-requires-clause-few g c =
+    few_inserts c.args.ticket.now c.args.plan.now.limits (change (g.G.Gate.told c.args.worker.now.gate) (g.G.Gate.told c.loop-buf.worker-inside.gate)) c.loop-buf.intake c.loop-buf.worker-inside.pass.known.calls c.loop-buf.worker-inside.totals
+    (search rules) c.runs.ensures.intake c.loop-buf.invariant.working c.loop-buf.invariant.totals
+
+pub loop-buf-preserved : goal.loop-buf-preserved
+loop-buf-preserved g c =
+    let told : g.row.G.Denot → GateTold = g.G.Gate.told in
+    let inv = c.loop-buf.invariant in
+    let inside = c.loop-buf.worker-inside in
+    let on : is_running c.loop-buf.intake ≡ true = sym c.runs.ensures.running ∙ c.loop-buf-test.true in
+    record {
+      same = record {
+        table = c.ask.ensures.pass.table ∙ inv.same.table;
+        number = c.ask.ensures.pass.number ∙ inv.same.number;
+        note = c.ask.ensures.pass.note ∙ inv.same.note;
+      };
+      working = Working-more c.args.ticket.now c.args.plan.now.limits (told c.args.worker.now.gate) (told inside.gate) (told c.ask.new.gate) c.loop-buf.intake c.ask.new.intake inside.pass.known.calls c.ask.new.pass.known.calls on inv.working c.ask.ensures.asked;
+      totals = c.ask.ensures.totals;
+      answers = inv.answers;
+      cause = FaultCause-more (told c.args.worker.now.gate) (told inside.gate) (told c.ask.new.gate) c.loop-buf.intake c.ask.new.intake on inv.cause c.ask.ensures.cause;
+    }
+
+pub returns-clause-pass : goal.returns-clause-pass
+returns-clause-pass g c = c.loop-buf.invariant.same
+
+pub returns-clause-worked : goal.returns-clause-worked
+returns-clause-worked g c =
+    let gate = change (g.G.Gate.told c.args.worker.now.gate) (g.G.Gate.told c.loop-buf.worker-inside.gate) in
+    let calls = c.loop-buf.worker-inside.pass.known.calls in
+    subst (λ x. Worked c.args.ticket.now c.args.plan.now gate x calls) (sym c.counts-worker-inside.ensures.counts)
+    (Worked-end c.args.ticket.now c.args.plan.now gate c.loop-buf.intake calls (sym c.runs.ensures.running ∙ c.loop-buf-test.false) c.requires.no_goal c.loop-buf.invariant.working)
+
+pub returns-clause-few : goal.returns-clause-few
+returns-clause-few g c =
+    few_inserts c.args.ticket.now c.args.plan.now.limits (change (g.G.Gate.told c.args.worker.now.gate) (g.G.Gate.told c.loop-buf.worker-inside.gate)) c.loop-buf.intake c.loop-buf.worker-inside.pass.known.calls c.loop-buf.worker-inside.totals
+    (search rules) c.runs.ensures.intake c.loop-buf.invariant.working c.loop-buf.invariant.totals
+
+pub returns-clause-answers : goal.returns-clause-answers
+returns-clause-answers g c =
+    let brings = c.loop-buf.invariant.working.brings in
+    no_answers_kept c.args.ticket.now.code c.loop-buf.worker-inside.pass.known (generations c.args.ticket.now) c.loop-buf.worker-inside.answers.items
+    (ap (λ (es : List Entry). tally (of_reply froze) es) brings.goes_on ∙ brings.unfrozen) (c.loop-buf.invariant.answers ∙ c.requires.no_answers)

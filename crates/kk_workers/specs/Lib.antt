@@ -1,0 +1,4 @@
+pub mod Totals
+pub mod Works
+pub mod Working
+pub mod Worker
