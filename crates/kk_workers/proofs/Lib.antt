@@ -2,3 +2,8 @@ pub mod Counting
 pub mod Bringing
 pub mod Batches
 pub mod Works
+pub mod Hires
+pub mod Closings
+pub mod Stations
+pub mod Frozen
+pub mod Headlines

@@ -1,12 +1,23 @@
-//! A worker over a gate: it asks the gate until that stops, and inserts what it gives into a shared table.
+//! A receiver with several gates: one worker a gate, each in a thread of its own, and one table for the rows of all.
 #![tactic(auto)]
 
+mod closing;
 mod plan;
+mod received;
+mod receiving;
+mod running;
+mod station;
 mod totals;
 mod worker;
 mod working;
 
 pub use plan::Plan;
+pub use received::Received;
+pub use receiving::receive;
+pub use running::MAX_GATES;
 pub use totals::Totals;
 pub use worker::{Unmade, Worker};
 pub use working::work;
+
+#[cfg(test)]
+mod tests;

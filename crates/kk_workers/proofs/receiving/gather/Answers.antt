@@ -1,0 +1,102 @@
+use Rattle.std.proofs.Common.{◌≡◌, ◌<◌, ◌+◌, ◌++◌, ◌∷◌, [], ℕ, List, All, IfSome, length, map, refl, ap, ◌∙◌, subst, arith, length-append}
+use Rattle.std.specs.List.{range_with_len}
+use Rattle.std.proofs.lemmas.List.{length-map}
+use Rattle.kk_code.specs.Codeword.{Parameters, IsMessage}
+use Rattle.kk_code.specs.Decoding.{answer}
+use Rattle.kk_table.specs.declared.view.Known.{Known}
+use Rattle.kk_table.specs.Founder.{FounderView}
+use Rattle.kk_table.specs.Rule.{sight, numbers_of}
+use Rattle.kk_workers.specs.Worker.{WorkerView}
+use Rattle.kk_workers.specs.Runs.{hired, Closes}
+use Rattle.kk_workers.proofs.Stations.{all_hired, ready, done}
+use Rattle.kk_workers.proofs.receiving.gather.Goals as goal
+
+pub run_all-requires-clause-ready : goal.run_all-requires-clause-ready
+run_all-requires-clause-ready g c κs within =
+    let table = c.in_ok-table.field-0.table in
+    let is = c.hire.ensures.workers ∙ ap (λ (n : ℕ). hired table n 0 c.args.gates.now.items) c.generations-generations.ensures.count in
+    ready table c.args.ticket.now c.args.gates.now.items c.hire.new.workers.items is
+
+pub dismiss-totals-requires-clause-passes : goal.dismiss-totals-requires-clause-passes
+dismiss-totals-requires-clause-passes g c κs within = λ k d near.
+    let table = c.in_ok-table.field-0.table in
+    let is = c.hire.ensures.workers ∙ ap (λ (n : ℕ). hired table n 0 c.args.gates.now.items) c.generations-generations.ensures.count in
+    let near' : k < length c.hire.new.workers.items = omega (arith, near, c.run_all.ensures.len) in
+    (c.run_all.ensures.each k d near').same.table ∙ (ready table c.args.ticket.now c.args.gates.now.items c.hire.new.workers.items is k d near').table
+
+pub dismiss-totals-requires-clause-few : goal.dismiss-totals-requires-clause-few
+dismiss-totals-requires-clause-few g c κs within =
+    let table = c.in_ok-table.field-0.table in
+    let is = c.hire.ensures.workers ∙ ap (λ (n : ℕ). hired table n 0 c.args.gates.now.items) c.generations-generations.ensures.count in
+    omega (arith, c.run_all.ensures.len, all_hired table c.args.ticket.now c.args.gates.now.items c.hire.new.workers.items is, c.requires.few)
+
+pub dismiss-totals-requires-clause-few_inserts : goal.dismiss-totals-requires-clause-few_inserts
+dismiss-totals-requires-clause-few_inserts g c κs within = λ k d near.
+    let near' : k < length c.hire.new.workers.items = omega (arith, near, c.run_all.ensures.len) in
+    let did = c.run_all.ensures.each k d near' in
+    (did.few, did.totals.within)
+
+pub dismiss-totals-requires-clause-room : goal.dismiss-totals-requires-clause-room
+dismiss-totals-requires-clause-room g c κs within =
+    let table = c.in_ok-table.field-0.table in
+    let is = c.hire.ensures.workers ∙ ap (λ (n : ℕ). hired table n 0 c.args.gates.now.items) c.generations-generations.ensures.count in
+    let long = all_hired table c.args.ticket.now c.args.gates.now.items c.hire.new.workers.items is in (
+      omega (arith, c.run_all.ensures.len, long, c.hire.ensures.gates_room, c.args.gates.now.ok.0, c.args.gates.now.ok.1),
+      omega (arith, c.run_all.ensures.len, long, c.in_ok-table.ensures.counts.1, c.len.ensures, c.args.gates.now.ok.0),
+    )
+
+pub unreachable-requires-in_default-finish : goal.unreachable-requires-in_default-finish
+unreachable-requires-in_default-finish g c =
+    let table = c.in_ok-table.field-0.table in
+    let is = c.hire.ensures.workers ∙ ap (λ (n : ℕ). hired table n 0 c.args.gates.now.items) c.generations-generations.ensures.count in
+    let long = all_hired table c.args.ticket.now c.args.gates.now.items c.hire.new.workers.items is in
+    let known : WorkerView g.row.G.Denot → Known = λ w. w.pass.known in
+    let records : c.take_back.new.self.records ≡ map known c.run_all.new.workers.items ++ c.close_all.new.pass.known ∷ [] =
+    ap (λ (f : FounderView). f.records) c.take_back.ensures
+    ∙ ap (λ (f : FounderView). f.records ++ c.close_all.new.pass.known ∷ []) (c.in-Ok.ensures.founder)
+    ∙ ap (λ (f : FounderView). f.records ++ c.close_all.new.pass.known ∷ []) c.dismiss-totals.ensures.founder in
+    let given : c.take_back.new.self.given ≡ c.hire.new.founder.given + 1 =
+    ap (λ (f : FounderView). f.given) c.take_back.ensures ∙ ap (λ (f : FounderView). f.given) c.in-Ok.ensures.founder ∙ ap (λ (f : FounderView). f.given + 1) c.dismiss-totals.ensures.founder in
+    let hired_given = ap (λ (f : FounderView). f.given) c.hire.ensures.founder in
+    let out : length c.take_back.new.self.records < c.take_back.new.self.given = c.in_default-finish.ensures.held_if_out.0 refl in
+    omega (
+      arith,
+      out,
+      given,
+      hired_given,
+      ap (λ (rs : List Known). length rs) records,
+      length-append (map known c.run_all.new.workers.items) (c.close_all.new.pass.known ∷ []),
+      length-map c.run_all.new.workers.items known,
+      c.run_all.ensures.len,
+      long,
+    )
+
+pub returns-clause-received : goal.returns-clause-received
+returns-clause-received g c =
+    let t = c.args.ticket.now in
+    let table = c.in_ok-table.field-0.table in
+    let gates = c.args.gates.now.items in
+    let count = c.generations-generations.ensures.count in
+    let is = c.hire.ensures.workers ∙ ap (λ (n : ℕ). hired table n 0 gates) count in
+    let long = all_hired table t gates c.hire.new.workers.items is in
+    let known : WorkerView g.row.G.Denot → Known = λ w. w.pass.known in
+    let closing = c.close_all.new.pass.known in
+    let same = c.close_all.ensures.pass in
+    let dismissed = ap (λ (f : FounderView). f.records) c.dismiss-totals.ensures.founder in
+    record {
+      shape = c.in-Ok-finish.ensures.logs.0 ∙ c.in_ok-table.ensures.shape;
+      workers = c.run_all.new.workers.items;
+      count = c.run_all.ensures.len ∙ long;
+      done = done table t gates c.hire.new.workers.items is g.G.Gate.told c.args.plan.now c.run_all.new.workers.items c.run_all.ensures.each;
+      gates_are = c.dismiss-totals.ensures.gates;
+      counts_are = c.dismiss-totals.ensures.counts;
+      totals_are = c.dismiss-totals.ensures.totals;
+      closing = closing;
+      records_are = c.in-Ok-finish.ensures.logs.1 ∙ ap (λ (f : FounderView). f.records) c.take_back.ensures
+          ∙ ap (λ (f : FounderView). f.records ++ closing ∷ []) c.in-Ok.ensures.founder ∙ ap (λ (rs : List Known). rs ++ closing ∷ []) dismissed;
+      number = same.number ∙ ap (λ (k : Known). k.number) c.in-Ok.ensures.pass.1 ∙ ap (λ (f : FounderView). f.given + 1) c.dismiss-totals.ensures.founder ∙ ap (λ (f : FounderView). f.given + 1) c.hire.ensures.founder;
+      note = same.note ∙ ap (λ (k : Known). k.note) c.in-Ok.ensures.pass.1 ∙ ap numbers_of dismissed;
+      closes = subst (λ (n : ℕ). Closes n closing) count c.close_all.ensures.closes;
+      answers = c.decode_all.ensures.answers ∙ (λ i. map (λ (k : ℕ). answer (c.code.ensures.code i) (sight closing k).rows) (range_with_len 0 (count i)));
+      messages = subst (λ (p : Parameters). All (λ a. IfSome a (IsMessage p)) c.decode_all.new.answers.items) c.code.ensures.code c.decode_all.ensures.messages;
+    }

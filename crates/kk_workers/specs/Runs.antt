@@ -1,0 +1,85 @@
+-- The workers of a receiver, before and after they work, and what is closed after them.
+use Rattle.std.specs.Prelude.{◌≡◌, ℕ, ◌+◌, ◌^◌, ◌<◌, ◌≤◌, true, List, [], ◌∷◌, ◌++◌, length, replicate, All, None, vec_capacity}
+use Rattle.std.specs.List.{range_with_len}
+use Rattle.kk_outside.specs.Change.{change}
+use Rattle.kk_outside.specs.Gate.{GateTold}
+use Rattle.kk_code.specs.Ticket.{TicketFields, generations}
+use Rattle.kk_machine.specs.declared.call.Call.{Call}
+use Rattle.kk_machine.specs.declared.call.Call.TheVariants.{Insert, Freeze, Peek}
+use Rattle.kk_machine.specs.declared.call.Entry.{Entry}
+use Rattle.kk_machine.specs.Inserts.{EachCall, is_freeze, AreBelow}
+use Rattle.kk_table.specs.declared.view.Known.{Known}
+use Rattle.kk_table.specs.Rule.{sight, newcomer}
+use Rattle.kk_table.specs.Founder.{FounderView}
+use Rattle.kk_table.specs.Pass.{PassView}
+use Rattle.kk_table.specs.Table.{TableView, shape_of}
+use Rattle.kk_workers.specs.declared.plan.Plan.{Plan}
+use Rattle.kk_workers.specs.declared.station.Station.{Station}
+use Rattle.kk_workers.specs.Totals.{totals_in, no_totals}
+use Rattle.kk_workers.specs.Works.{SamePass, AreAnswers, Worked, FaultCause}
+use Rattle.kk_workers.specs.Working.{AreTotals}
+use Rattle.kk_workers.specs.Worker.{WorkerView, new_worker}
+
+-- ---- before the first call on a gate
+
+abbrev pub founder_of : TableView → ℕ → ℕ → List Known → ℕ → FounderView
+founder_of table passes given records spare = record { table = table; passes = passes; given = given; records = records; spare = spare }
+
+-- A new table of the ticket for so many gates and a closing pass, with the storage of all passes, and room for all that
+-- becomes known.
+pub record IsStation {G : Type 0} (t : TicketFields) (gates : ℕ) (s : Station G) : Type 0 where
+  pub shape : s.table.shape ≡ shape_of t
+  pub founder : s.founder ≡ founder_of s.table (gates + 1) 0 [] (gates + 1)
+  pub rooms : length s.rooms.items ≡ gates
+  pub empty : All (λ room. room.items ≡ replicate (generations t) None) s.rooms.items
+  pub workers : (s.workers.items ≡ []) × (gates ≤ vec_capacity s.workers)
+  pub counts : (s.counts.items ≡ []) × (gates ≤ vec_capacity s.counts)
+  pub answers : (s.answers.items ≡ []) × (generations t ≤ vec_capacity s.answers)
+
+-- the pass that is given after k others, none of which was taken back
+abbrev pub pass_of : TableView → ℕ → PassView
+pass_of table k = record { table = table; known = newcomer table.shape.generations k [] }
+
+-- the workers of these gates, from place k on
+unfoldable pub hired : {G : Type 0} → TableView → ℕ → ℕ → List G → List (WorkerView G)
+hired table n k [] = []
+hired table n k (gate ∷ gates) = new_worker n (pass_of table k) gate ∷ hired table n (k + 1) gates
+
+-- ---- at work
+
+-- a worker that may work at the table
+pub record IsReady {G : Type 0} (here : TableView) (t : TicketFields) (w : WorkerView G) : Type 0 where
+  pub table : w.pass.table ≡ here
+  pub no_calls : w.pass.known.calls ≡ []
+  pub no_inserts : w.totals ≡ no_totals
+  pub no_answers : w.answers ≡ replicate (generations t) None
+
+-- what a worker did
+pub record Did {G : Type 0} (told : G → GateTold) (t : TicketFields) (plan : Plan) (w w' : WorkerView G) : Type 0 where
+  pub same : SamePass w.pass w'.pass
+  pub worked : Worked t plan (change (told w.gate) (told w'.gate)) w'.counts w'.pass.known.calls
+  pub totals : AreTotals w'.totals w'.pass.known.calls
+  pub few : w'.totals.inserts ≤ 2 ^ 39
+  pub answers : AreAnswers t.code w'.pass.known w'.answers
+  pub cause : FaultCause (change (told w.gate) (told w'.gate)) w'.counts
+
+-- ---- closing
+
+-- the generation that a call freezes
+abbrev pub closed_by : Call → List ℕ
+closed_by (Insert g row) = []
+closed_by (Freeze g) = g ∷ []
+closed_by (Peek g) = []
+
+-- the generations that these calls freeze, in order
+unfoldable pub all_closed_by : List Entry → List ℕ
+all_closed_by [] = []
+all_closed_by (e ∷ es) = closed_by e.call ++ all_closed_by es
+
+-- A pass has frozen the first n generations in order and made no other call, and knows them closed.
+pub record Closes (n : ℕ) (k : Known) : Type 0 where
+  pub closed : (g : ℕ) → g < n → (sight k g).closed ≡ true
+  pub freezes : EachCall is_freeze k.calls
+  pub in_order : all_closed_by k.calls ≡ range_with_len 0 n
+  pub totals : totals_in k.calls ≡ no_totals
+  pub below : AreBelow n k.calls
