@@ -9,6 +9,7 @@ use Rattle.std.proofs.lemmas.List.{map-append}
 use Rattle.std.proofs.lemmas.List.Sums.{sum_by-cons}
 use mathlib.Core.Logic.{dite}
 use native.Mathlib.Decide.{ℕ_discrete}
+use Rattle.kk_frame.specs.Generation.{rows_of}
 use Rattle.kk_machine.specs.declared.log.Log.{Log}
 use Rattle.kk_machine.specs.declared.call.Call.{Call}
 use Rattle.kk_machine.specs.declared.call.Call.TheVariants.{Insert, Freeze, Peek}
@@ -25,7 +26,7 @@ use Rattle.kk_table.specs.Rule.{numbers_of}
 use Rattle.kk_table.specs.Logs.{IsHistoryOf}
 use Rattle.kk_workers.specs.Totals.{totals_in, no_totals}
 use Rattle.kk_workers.specs.Works.{brought, all_brought}
-use Rattle.kk_workers.specs.Headline.{rows_of, is_open, open_after}
+use Rattle.kk_workers.specs.Headline.{is_open, open_after}
 
 -- ---- rows
 

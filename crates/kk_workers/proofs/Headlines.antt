@@ -16,6 +16,7 @@ use Rattle.kk_code.specs.Ticket.{TicketFields, generations}
 use Rattle.kk_frame.specs.declared.frame.TheConstants.{FRAME_BYTES}
 use Rattle.kk_frame.specs.declared.gate_count.GateCount.{GateCount}
 use Rattle.kk_frame.specs.Events.{taken}
+use Rattle.kk_frame.specs.Generation.{rows_of}
 use Rattle.kk_machine.specs.declared.log.Log.{Log}
 use Rattle.kk_machine.specs.declared.call.Entry.{Entry}
 use Rattle.kk_machine.specs.Spaces.{unseen}
@@ -33,7 +34,7 @@ use Rattle.kk_workers.specs.Totals.{totals_in, no_totals}
 use Rattle.kk_workers.specs.Worker.{WorkerView, no_counts}
 use Rattle.kk_workers.specs.Works.{all_brought, events_told, InsertsFor}
 use Rattle.kk_workers.specs.Working.{AreTotals}
-use Rattle.kk_workers.specs.Headline.{changes, all_taken, rows_of, IsPassOf, ReceivedView, Headline, AddUp}
+use Rattle.kk_workers.specs.Headline.{changes, all_taken, IsPassOf, ReceivedView, Headline, AddUp}
 use Rattle.kk_workers.specs.Receiving.{IsDone, IsReceived}
 use Rattle.kk_workers.proofs.Counting.{same_totals}
 use Rattle.kk_workers.proofs.Bringing.{inserts-brought}

@@ -1,6 +1,5 @@
 pub mod Counting
 pub mod Bringing
-pub mod Batches
 pub mod Works
 pub mod Hires
 pub mod Closings

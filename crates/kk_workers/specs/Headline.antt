@@ -1,5 +1,5 @@
 -- What was received: the logs of one history of calls, and what they decode to.
-use Rattle.std.specs.Prelude.{◌≡◌, ◌↔◌, ℕ, ◌+◌, ◌<◌, ◌==◌, Bool, true, if◌then◌else◌, List, [], ◌∷◌, ◌++◌, map, filter, flat_map, length, sum_by, slice_index_or, All, Option, Some, None, IfSome}
+use Rattle.std.specs.Prelude.{◌≡◌, ◌↔◌, ℕ, ◌+◌, ◌<◌, ◌==◌, Bool, true, List, [], ◌∷◌, ◌++◌, map, filter, flat_map, length, sum_by, slice_index_or, All, Option, Some, None, IfSome}
 use Rattle.std.specs.List.{range_with_len}
 use Rattle.kk_outside.specs.Causes.{CanCount}
 use Rattle.kk_outside.specs.Change.{Change, change}
@@ -12,6 +12,7 @@ use Rattle.kk_frame.specs.declared.limits.Limits.{Limits}
 use Rattle.kk_frame.specs.declared.gate_count.Ended.TheVariants.{Fault}
 use Rattle.kk_frame.specs.declared.gate_count.GateCount.{GateCount}
 use Rattle.kk_frame.specs.Events.{taken}
+use Rattle.kk_frame.specs.Generation.{rows_of}
 use Rattle.kk_machine.specs.declared.call.Entry.{Entry}
 use Rattle.kk_machine.specs.Inserts.{EachCall, is_freeze, FrozenBy, tally, freezes}
 use Rattle.kk_table.specs.declared.view.Known.{Known}
@@ -35,11 +36,6 @@ changes told (gate ∷ gates) (gate' ∷ after) = change (told gate) (told gate'
 -- generation and row of each data frame that was taken of the gates, gate after gate
 abbrev pub all_taken : TicketFields → Limits → List (Change GateTold) → List (ℕ × ℕ)
 all_taken t limits gates = flat_map (λ gate. taken FRAME_BYTES t limits (events_told gate)) gates
-
--- the rows of a generation among these, in order
-unfoldable pub rows_of : ℕ → List (ℕ × ℕ) → List ℕ
-rows_of g [] = []
-rows_of g (vector ∷ vectors) = if vector.0 == g then vector.1 ∷ rows_of g vectors else rows_of g vectors
 
 -- ---- the passes
 

@@ -3,7 +3,8 @@ ghost use Rattle.std.specs.Prelude.{◌≡◌, ◌<◌, ◌≤◌, All, None, If
 ghost use Rattle.kk_outside.specs.Gate.{FitsGate};
 ghost use Rattle.kk_code.specs.Decoding.{answer};
 ghost use Rattle.kk_code.specs.Ticket.{generations};
-ghost use Rattle.kk_workers.specs.Headline.{changes, all_taken, rows_of};
+ghost use Rattle.kk_frame.specs.Generation.{rows_of};
+ghost use Rattle.kk_workers.specs.Headline.{changes, all_taken};
 
 use super::*;
 use kk_code::{Message, Ticket};

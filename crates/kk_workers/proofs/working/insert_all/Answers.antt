@@ -2,14 +2,18 @@ use Rattle.std.proofs.Common.{◌^◌, ◌<◌, ◌∷◌, [], take, get_or, ℕ
 use Rattle.kk_rows.specs.declared.rows.Row.{Row}
 use Rattle.kk_code.specs.Ticket.{generations}
 use Rattle.kk_frame.specs.FrameView.{pairs}
+use Rattle.kk_frame.proofs.Batches.{in_batch, batch_more}
 use Rattle.kk_table.specs.declared.view.Shape.{Shape}
 use Rattle.kk_workers.specs.declared.totals.Totals.{Totals}
 use Rattle.kk_workers.specs.Totals.{counted, totals_in}
 use Rattle.kk_workers.specs.Working.{Brings}
-use Rattle.kk_workers.proofs.Batches.{no_frame, frame_of, one_frame_more}
 use Rattle.kk_workers.proofs.Bringing.{Brings-nothing, Brings-append, Brings-one}
 use Rattle.kk_workers.proofs.Counting.{totals-insert, counted_inserts}
 use Rattle.kk_workers.proofs.working.insert_all.Goals as goal
+
+-- what a batch is read as past its end
+abbrev no_frame : ℕ × Row
+no_frame = (0, record { 0 = 0 })
 
 pub loop-generation-init : goal.loop-generation-init
 loop-generation-init c = record {
@@ -20,10 +24,10 @@ loop-generation-init c = record {
 }
 
 pub insert-requires-clause-generation : goal.insert-requires-clause-generation
-insert-requires-clause-generation c = subst (λ (s : Shape). (get_or c.as_slice-generation-items.result.now c.loop-generation.generation-index no_frame).0 < s.generations) (sym c.requires.shape) (frame_of c.args.ticket.now c.as_slice-generation-items.result.now c.args.batch.now c.loop-generation.generation-index c.as_slice-generation-items.ensures.frames c.requires.frames c.loop-generation-test.true).0
+insert-requires-clause-generation c = subst (λ (s : Shape). (get_or c.as_slice-generation-items.result.now c.loop-generation.generation-index no_frame).0 < s.generations) (sym c.requires.shape) (in_batch c.args.ticket.now c.as_slice-generation-items.result.now c.args.batch.now c.loop-generation.generation-index no_frame c.as_slice-generation-items.ensures.frames c.requires.frames c.loop-generation-test.true).0
 
 pub insert-requires-clause-row : goal.insert-requires-clause-row
-insert-requires-clause-row c = subst (λ (s : Shape). (get_or c.as_slice-generation-items.result.now c.loop-generation.generation-index no_frame).1.0 < 2 ^ s.width) (sym c.requires.shape) (frame_of c.args.ticket.now c.as_slice-generation-items.result.now c.args.batch.now c.loop-generation.generation-index c.as_slice-generation-items.ensures.frames c.requires.frames c.loop-generation-test.true).1
+insert-requires-clause-row c = subst (λ (s : Shape). (get_or c.as_slice-generation-items.result.now c.loop-generation.generation-index no_frame).1.0 < 2 ^ s.width) (sym c.requires.shape) (in_batch c.args.ticket.now c.as_slice-generation-items.result.now c.args.batch.now c.loop-generation.generation-index no_frame c.as_slice-generation-items.ensures.frames c.requires.frames c.loop-generation-test.true).1
 
 pub loop-generation-preserved : goal.loop-generation-preserved
 loop-generation-preserved c =
@@ -31,7 +35,7 @@ loop-generation-preserved c =
     let n = generations c.args.ticket.now in
     let frames = c.as_slice-generation-items.result.now in
     let frame : ℕ × Row = get_or frames loop.generation-index no_frame in
-    let within = frame_of c.args.ticket.now frames c.args.batch.now loop.generation-index c.as_slice-generation-items.ensures.frames c.requires.frames c.loop-generation-test.true in
+    let within = in_batch c.args.ticket.now frames c.args.batch.now loop.generation-index no_frame c.as_slice-generation-items.ensures.frames c.requires.frames c.loop-generation-test.true in
     let one : Brings n loop.pass.known.calls c.insert.new.pass.known.calls ((frame.0, frame.1.0) ∷ []) = Brings-one n loop.pass.known.calls c.insert.new.pass.known.calls loop.pass.known.number frame.0 frame.1 c.insert.result within.0 c.insert.ensures.call in
     record {
       same = record {
@@ -39,7 +43,7 @@ loop-generation-preserved c =
         number = c.insert.ensures.goes_on.number ∙ loop.invariant.same.number;
         note = c.insert.ensures.goes_on.note ∙ loop.invariant.same.note;
       };
-      brings = subst (Brings n c.args.pass.now.known.calls c.insert.new.pass.known.calls) (sym (one_frame_more frames loop.generation-index c.loop-generation-test.true))
+      brings = subst (Brings n c.args.pass.now.known.calls c.insert.new.pass.known.calls) (sym (batch_more frames loop.generation-index no_frame c.loop-generation-test.true))
           (Brings-append n c.args.pass.now.known.calls loop.pass.known.calls c.insert.new.pass.known.calls (take loop.generation-index (pairs frames)) ((frame.0, frame.1.0) ∷ []) loop.invariant.brings one);
       totals = record {
         are = c.count.ensures.counted ∙ ap (counted c.insert.result) loop.invariant.totals.are
