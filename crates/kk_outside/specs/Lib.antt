@@ -13,3 +13,4 @@ pub mod Outlet
 pub mod OutletState
 pub mod Packed
 pub mod UdpState
+pub mod Generator

@@ -30,7 +30,7 @@ use Rattle.kk_frame.proofs.Stops.{datagrams-append}
 use Rattle.kk_relay.specs.Progress.{AreCut, HasRelayed, BreaksOff, EndsShort, IsCutShort, AsksUpToStop, StopsThere, HasAsked}
 use Rattle.kk_relay.specs.RelayState.{BasisState, relay_after}
 use Rattle.kk_relay.specs.Relaying.{relayed, sent_behind, datagrams_of, is_failure, last_datagrams, relay_list}
-use Rattle.kk_relay.specs.Words.{word_at}
+use Rattle.kk_outside.specs.Generator.{word_at}
 use Rattle.kk_relay.proofs.Events.{HasAsked-start}
 use Rattle.kk_relay.proofs.Relays.{relayed-append, sent_behind-nil}
 use Rattle.kk_relay.proofs.Sends.{AreSent-nothing, AreSent-same, length-datagrams_of, datagrams_of-append}

@@ -12,7 +12,7 @@ use Rattle.kk_code.specs.Ticket.{TicketFields}
 use Rattle.kk_frame.specs.Frame.{Vector, frame_text}
 use Rattle.kk_relay.specs.Progress.{AreSent, AreCut}
 use Rattle.kk_relay.specs.Relaying.{datagrams_of, combinations}
-use Rattle.kk_relay.specs.Words.{after_words, word_at}
+use Rattle.kk_outside.specs.Generator.{after_words, word_at}
 use Rattle.kk_relay.proofs.Relays.{length-combinations}
 
 abbrev datagram : TicketFields → ℕ × ℕ → List ℕ

@@ -11,7 +11,7 @@ use Rattle.kk_code.specs.Ticket.{TicketFields, generations}
 use Rattle.kk_relay.specs.Progress.{AreSent, AreCut, HasRelayed, BreaksOff}
 use Rattle.kk_relay.specs.RelayState.{BasisState, no_rows, with_row, relay_after}
 use Rattle.kk_relay.specs.Relaying.{held, emissions, combinations, sent_for, sent_behind, relayed}
-use Rattle.kk_relay.specs.Words.{after_words, word_at}
+use Rattle.kk_outside.specs.Generator.{after_words, word_at}
 use Rattle.kk_relay.proofs.Relays.{length-combinations, length-sent_for, sent_behind-cons, sent_behind-nil, relayed-append, relayed-push, relay_after-push, get_or-relay_after}
 use Rattle.kk_relay.proofs.Sends.{AreSent-append, AreSent-same, AreCut-append, AreCut-same, AreCut-more}
 

@@ -1,4 +1,3 @@
-pub mod Words
 pub mod Relaying
 pub mod RelayState
 pub mod Progress

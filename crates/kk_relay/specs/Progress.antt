@@ -14,7 +14,7 @@ use Rattle.kk_frame.specs.Events.{stop, taken, counts}
 use Rattle.kk_frame.specs.Intake.{IntakeState, IsAfter, is_running}
 use Rattle.kk_relay.specs.Relaying.{relayed, datagrams_of}
 use Rattle.kk_relay.specs.RelayState.{BasisState, relay_after}
-use Rattle.kk_relay.specs.Words.{after_words, word_at}
+use Rattle.kk_outside.specs.Generator.{after_words, word_at}
 
 -- ---- data frames that are sent
 

@@ -11,7 +11,7 @@ ghost use Rattle.kk_frame.specs.Frame.{IsFrame, frame_text};
 ghost use Rattle.kk_frame.specs.FrameView.{value};
 ghost use Rattle.kk_relay.specs.Progress.{AreSent, AreCut};
 ghost use Rattle.kk_relay.specs.Relaying.{combinations};
-ghost use Rattle.kk_relay.specs.Words.{after_words, word_at};
+ghost use Rattle.kk_outside.specs.Generator.{after_words, word_at};
 
 use kk_code::Ticket;
 use kk_frame::{FRAME_BYTES, Frame, write_frame};

@@ -13,7 +13,7 @@ ghost use Rattle.kk_frame.specs.Frame.{Vector, IsFrame};
 ghost use Rattle.kk_relay.specs.Progress.{HasRelayed, BreaksOff, EndsShort, IsCutShort, RoseWhere, AsksUpToStop, StopsThere, frames_of};
 ghost use Rattle.kk_relay.specs.Relaying.{is_failure, relayed, relay_list};
 ghost use Rattle.kk_relay.specs.RelayState.{no_rows, with_row, relay_after, rank};
-ghost use Rattle.kk_relay.specs.Words.{after_words, word_at};
+ghost use Rattle.kk_outside.specs.Generator.{after_words, word_at};
 
 use crate::asking::next_frames;
 use crate::basis::Basis;

@@ -6,7 +6,7 @@ ghost use Rattle.kk_outside.specs.Change.{change};
 ghost use Rattle.kk_outside.specs.Gate.{FitsGate, events_told};
 ghost use Rattle.kk_outside.specs.Outlet.{append_datagrams};
 ghost use Rattle.kk_relay.specs.Relaying.{relay_list};
-ghost use Rattle.kk_relay.specs.Words.{word_at};
+ghost use Rattle.kk_outside.specs.Generator.{word_at};
 
 use super::*;
 use kk_code::Ticket;

@@ -14,7 +14,7 @@ use Rattle.kk_rows.proofs.Combinations.{combination-lt}
 use Rattle.kk_code.specs.Ticket.{TicketFields}
 use Rattle.kk_code.proofs.Values.{length-codeword}
 use Rattle.kk_frame.specs.Frame.{FrameValue, Vector}
-use Rattle.kk_sender.specs.Words.{after_words, word_at}
+use Rattle.kk_outside.specs.Generator.{after_words, word_at}
 use Rattle.kk_sender.specs.SentFrames.{codeword_of, with_combinations, sent_rows, vectors, data_frames}
 
 range-more : (a n : ℕ) → range_with_len a (n + 1) ≡ range_with_len a n ++ (a + n) ∷ []

@@ -1,5 +1,4 @@
 pub mod Faults
-pub mod Words
 pub mod SentFrames
 pub mod LengthRule
 pub mod Sending

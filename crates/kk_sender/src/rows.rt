@@ -2,7 +2,7 @@
 ghost use Rattle.std.specs.Prelude.{◌≡◌, ◌+◌, ◌*◌, ◌^◌, ◌<◌, ◌≤◌, ℕ, All, [], ◌∷◌, ◌++◌, length};
 ghost use Rattle.rand_core.specs.Stream.{Stream};
 ghost use Rattle.kk_rows.specs.Rows.{numbers};
-ghost use Rattle.kk_sender.specs.Words.{after_words, word_at};
+ghost use Rattle.kk_outside.specs.Generator.{after_words, word_at};
 ghost use Rattle.kk_sender.specs.SentFrames.{with_combinations};
 
 use kk_code::CodeRows;

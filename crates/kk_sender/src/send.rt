@@ -9,7 +9,7 @@ ghost use Rattle.kk_outside.specs.Outlet.{OutletTold, OutletFailed, append_datag
 ghost use Rattle.kk_code.specs.Codeword.{width};
 ghost use Rattle.kk_code.specs.Ticket.{TicketFields, generations};
 ghost use Rattle.kk_frame.specs.Frame.{FrameValue, End, frame_text};
-ghost use Rattle.kk_sender.specs.Words.{after_words, word_at};
+ghost use Rattle.kk_outside.specs.Generator.{after_words, word_at};
 ghost use Rattle.kk_sender.specs.SentFrames.{sent_rows, vectors, data_frames, sent_datagrams};
 ghost use Rattle.kk_sender.specs.LengthRule.{wrong_length, ReadsToLength, FailsWithinLength, LeavesAfterLength};
 ghost use Rattle.kk_sender.specs.Sending.{IsPending, IsCut, SentPrefix};

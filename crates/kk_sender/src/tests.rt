@@ -1,7 +1,7 @@
 ghost use Rattle.std.specs.Prelude.{◌≡◌, ℕ, ◌+◌, ◌==◌, ◌≤◌, min, if◌then◌else◌, vec_len, IfSome};
 ghost use Rattle.rand_core.specs.Steps.{stream_of, steps_u64_low};
 ghost use Rattle.kk_outside.specs.Outlet.{append_datagrams};
-ghost use Rattle.kk_sender.specs.Words.{word_at};
+ghost use Rattle.kk_outside.specs.Generator.{word_at};
 ghost use Rattle.kk_sender.specs.SentFrames.{sent_datagrams};
 
 use super::*;

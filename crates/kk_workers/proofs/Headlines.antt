@@ -10,7 +10,7 @@ use Rattle.kk_rows.specs.Span.{in_span}
 use Rattle.kk_rows.proofs.Spans.{same_span_members}
 use Rattle.kk_decode.proofs.Answering.{answer-same_span}
 use Rattle.kk_outside.specs.Change.{Change, change}
-use Rattle.kk_outside.specs.Gate.{GateTold}
+use Rattle.kk_outside.specs.Gate.{GateTold, events_told}
 use Rattle.kk_code.specs.Decoding.{answer}
 use Rattle.kk_code.specs.Ticket.{TicketFields, generations}
 use Rattle.kk_frame.specs.declared.frame.TheConstants.{FRAME_BYTES}
@@ -32,7 +32,7 @@ use Rattle.kk_workers.specs.declared.plan.Plan.{Plan}
 use Rattle.kk_workers.specs.declared.totals.Totals.{Totals}
 use Rattle.kk_workers.specs.Totals.{totals_in, no_totals}
 use Rattle.kk_workers.specs.Worker.{WorkerView, no_counts}
-use Rattle.kk_workers.specs.Works.{all_brought, events_told, InsertsFor}
+use Rattle.kk_workers.specs.Works.{all_brought, InsertsFor}
 use Rattle.kk_workers.specs.Working.{AreTotals}
 use Rattle.kk_workers.specs.Headline.{changes, all_taken, IsPassOf, ReceivedView, Headline, AddUp}
 use Rattle.kk_workers.specs.Receiving.{IsDone, IsReceived}

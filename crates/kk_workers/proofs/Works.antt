@@ -5,7 +5,7 @@ use Rattle.std.proofs.lemmas.Option.{same_Some}
 use Rattle.std.proofs.lemmas.List.{drop_at, get_or-replicate, length-replicate}
 use Rattle.kk_outside.specs.Causes.{CanCount, Rose}
 use Rattle.kk_outside.specs.Change.{Change, change}
-use Rattle.kk_outside.specs.Gate.{GateTold, TellsFrom, prepend_events, events_of_got}
+use Rattle.kk_outside.specs.Gate.{GateTold, TellsFrom, prepend_events, events_of_got, events_told, GateFailed}
 use Rattle.kk_outside.specs.declared.got.Got.{Got}
 use Rattle.kk_outside.specs.declared.got.Got.TheVariants as got
 use Rattle.kk_outside.specs.declared.event.Event.TheVariants.{Datagram, Quiet, Fault}
@@ -27,7 +27,7 @@ use Rattle.kk_machine.specs.Inserts.{tally, of_reply, froze, is_insert, EachCall
 use Rattle.kk_table.specs.declared.view.Known.{Known}
 use Rattle.kk_workers.specs.declared.plan.Plan.{Plan}
 use Rattle.kk_workers.specs.declared.totals.Totals.{Totals}
-use Rattle.kk_workers.specs.Works.{all_brought, InsertsFor, AreAnswers, events_told, GateFailed, Takes, Worked, FaultCause}
+use Rattle.kk_workers.specs.Works.{all_brought, InsertsFor, AreAnswers, Takes, Worked, FaultCause}
 use Rattle.kk_workers.specs.Working.{Brings, AreTotals, IsAtEnd, Follows, Asked, Working}
 use Rattle.kk_workers.proofs.Counting.{in_generation-le}
 use Rattle.kk_workers.proofs.Bringing.{Brings-nothing, Brings-append, inserts-brought}

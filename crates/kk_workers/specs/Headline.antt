@@ -3,7 +3,7 @@ use Rattle.std.specs.Prelude.{◌≡◌, ◌↔◌, ℕ, ◌+◌, ◌<◌, ◌==
 use Rattle.std.specs.List.{range_with_len}
 use Rattle.kk_outside.specs.Causes.{CanCount}
 use Rattle.kk_outside.specs.Change.{Change, change}
-use Rattle.kk_outside.specs.Gate.{GateTold}
+use Rattle.kk_outside.specs.Gate.{GateTold, GateFailed, events_told}
 use Rattle.kk_code.specs.Codeword.{IsMessage}
 use Rattle.kk_code.specs.Decoding.{answer}
 use Rattle.kk_code.specs.Ticket.{TicketFields, generations}
@@ -22,7 +22,7 @@ use Rattle.kk_table.specs.Table.{shape_of}
 use Rattle.kk_workers.specs.declared.plan.Plan.{Plan}
 use Rattle.kk_workers.specs.declared.totals.Totals.{Totals}
 use Rattle.kk_workers.specs.Totals.{totals_in}
-use Rattle.kk_workers.specs.Works.{events_told, GateFailed, Worked, FaultCause}
+use Rattle.kk_workers.specs.Works.{Worked, FaultCause}
 use Rattle.kk_workers.specs.Runs.{all_closed_by}
 
 -- ---- the gates

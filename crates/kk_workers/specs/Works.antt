@@ -1,8 +1,8 @@
 -- What a worker does with its gate and its pass.
-use Rattle.std.specs.Prelude.{◌≡◌, ℕ, ◌+◌, ◌*◌, ◌<◌, ◌≤◌, List, [], ◌∷◌, ◌++◌, length, drop, slice_index_or, Option, Some, None}
+use Rattle.std.specs.Prelude.{◌≡◌, ℕ, ◌+◌, ◌*◌, ◌<◌, ◌≤◌, List, [], ◌∷◌, ◌++◌, length, slice_index_or, Option, Some, None}
 use Rattle.kk_outside.specs.Causes.{Rose}
 use Rattle.kk_outside.specs.Change.{Change}
-use Rattle.kk_outside.specs.Gate.{GateTold, prepend_events}
+use Rattle.kk_outside.specs.Gate.{GateTold, prepend_events, events_told}
 use Rattle.kk_outside.specs.declared.event.Event.{Event}
 use Rattle.kk_code.specs.Codeword.{Parameters}
 use Rattle.kk_code.specs.Decoding.{answer}
@@ -54,14 +54,6 @@ AreAnswers p k answers =
     × (tally (in_generation g froze) k.calls ≡ 0 → slice_index_or answers g None ≡ None)
 
 -- ---- the events of a gate
-
--- the events that a gate told meanwhile
-abbrev pub events_told : Change GateTold → List Event
-events_told gate = drop (length gate.old.events) gate.new.events
-
--- its count of faults rose
-abbrev pub GateFailed : Change GateTold → Type 0
-GateFailed gate = gate.old.faults < gate.new.faults
 
 -- A gate that has these events and no more has these counts, and the calls insert the data frames that are taken of it.
 pub record Takes (t : TicketFields) (limits : Limits) (events : List Event) (counted : GateCount) (calls : List Entry) : Type 0 where

@@ -8,7 +8,8 @@ ghost use Rattle.kk_frame.specs.Frame.{IsFrame, Vector};
 ghost use Rattle.kk_frame.specs.Intake.{IsIntake, is_running, calls_left};
 ghost use Rattle.kk_table.specs.Table.{shape_of};
 ghost use Rattle.kk_workers.specs.Totals.{no_totals};
-ghost use Rattle.kk_workers.specs.Works.{SamePass, AreAnswers, GateFailed, Worked, FaultCause};
+ghost use Rattle.kk_outside.specs.Gate.{GateFailed};
+ghost use Rattle.kk_workers.specs.Works.{SamePass, AreAnswers, Worked, FaultCause};
 ghost use Rattle.kk_workers.specs.Working.{Brings, AreTotals, Asked};
 
 use crate::{Plan, Totals, Worker};

@@ -4,7 +4,7 @@ use Rattle.kk_rows.specs.Rows.{numbers}
 use Rattle.kk_outside.specs.Change.{change}
 use Rattle.kk_relay.specs.Progress.{AreSent}
 use Rattle.kk_relay.specs.Relaying.{combinations}
-use Rattle.kk_relay.specs.Words.{after_words, word_at}
+use Rattle.kk_outside.specs.Generator.{after_words, word_at}
 use Rattle.kk_relay.proofs.emission.send_combinations.Given as goal
 
 abbrev pub invariant-loop : goal.invariant-loop

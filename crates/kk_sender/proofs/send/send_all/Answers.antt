@@ -2,7 +2,7 @@ use Rattle.std.proofs.Common.{◌≡◌, ◌+◌, ◌-◌, length, take, Err, ap
 use Rattle.std.proofs.lemmas.Result.{err_from_is_err_and}
 use Rattle.kk_outside.specs.Change.{change}
 use Rattle.kk_outside.specs.Outlet.{append_datagrams}
-use Rattle.kk_sender.specs.Words.{word_at}
+use Rattle.kk_outside.specs.Generator.{word_at}
 use Rattle.kk_sender.specs.SentFrames.{sent_datagrams}
 use Rattle.kk_sender.specs.Sending.{SentPrefix}
 use Rattle.kk_sender.proofs.Lengths.{the_file, wrong_sent}

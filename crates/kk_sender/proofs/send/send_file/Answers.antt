@@ -2,7 +2,7 @@ use Rattle.std.proofs.Common.{◌≡◌, ℕ, ◌+◌, ◌*◌, [], ap, sym, sub
 use Rattle.std.proofs.Math.Nat.{zero-mul}
 use Rattle.std.proofs.lemmas.Result.{err_from_is_err_and}
 use Rattle.kk_outside.specs.Change.{change}
-use Rattle.kk_sender.specs.Words.{after_words, word_at}
+use Rattle.kk_outside.specs.Generator.{after_words, word_at}
 use Rattle.kk_sender.specs.SentFrames.{sent_rows, data_frames}
 use Rattle.kk_sender.specs.Sending.{DatagramState, IsPending}
 use Rattle.kk_sender.proofs.Datagrams.{OnOk-then, OnErr-then, IsPending-start}

@@ -1,6 +1,6 @@
 use Rattle.std.proofs.Common.{◌≡◌, ◌*◌}
 use Rattle.kk_outside.specs.Change.{change}
-use Rattle.kk_sender.specs.Words.{after_words, word_at}
+use Rattle.kk_outside.specs.Generator.{after_words, word_at}
 use Rattle.kk_sender.specs.SentFrames.{sent_rows, data_frames}
 use Rattle.kk_sender.specs.Sending.{IsPending}
 use Rattle.kk_sender.proofs.send.send_file.Given as goal

@@ -2,7 +2,7 @@ use Rattle.std.proofs.Common.{◌+◌, take, ap, ◌∙◌, arith}
 use Rattle.std.proofs.lemmas.List.{take_all}
 use Rattle.kk_outside.specs.Outlet.{append_datagrams}
 use Rattle.kk_outside.specs.SourceState.{SourceState}
-use Rattle.kk_sender.specs.Words.{word_at}
+use Rattle.kk_outside.specs.Generator.{word_at}
 use Rattle.kk_sender.specs.SentFrames.{sent_datagrams}
 use Rattle.kk_sender.proofs.tests.send_bytes.Goals as goal
 

@@ -5,7 +5,7 @@ use Rattle.kk_outside.specs.Outlet.{OutletTold}
 use Rattle.kk_frame.specs.FrameView.{pairs}
 use Rattle.kk_relay.specs.Progress.{HasRelayed}
 use Rattle.kk_relay.specs.Relaying.{relayed}
-use Rattle.kk_relay.specs.Words.{word_at}
+use Rattle.kk_outside.specs.Generator.{word_at}
 use Rattle.kk_relay.proofs.relay.Relay.relay_frames.Given as goal
 
 abbrev pub invariant-loop-frame : goal.invariant-loop-frame

@@ -1,6 +1,6 @@
 use Rattle.std.proofs.Common.{◌≡◌, ℕ, ◌+◌, List, ◌∷◌, ◌++◌, [], length, ap, sym, ◌∙◌, arith, length-append}
 use Rattle.kk_rows.specs.Combination.{combination}
-use Rattle.kk_sender.specs.Words.{after_words, word_at}
+use Rattle.kk_outside.specs.Generator.{after_words, word_at}
 use Rattle.kk_sender.specs.SentFrames.{with_combinations}
 use Rattle.kk_sender.proofs.Frames.{with_combinations-none, with_combinations-more, drawn}
 use Rattle.kk_sender.proofs.rows.SentRows.new.Goals as goal

@@ -1,6 +1,6 @@
 use Rattle.std.proofs.Common.{◌≡◌, ℕ, ◌+◌, ◌≤◌, length}
 use Rattle.rand_core.specs.Stream.{Stream}
-use Rattle.kk_sender.specs.Words.{after_words, word_at}
+use Rattle.kk_outside.specs.Generator.{after_words, word_at}
 use Rattle.kk_sender.specs.SentFrames.{with_combinations}
 use Rattle.kk_sender.proofs.rows.SentRows.new.Given as goal
 
