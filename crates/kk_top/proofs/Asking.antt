@@ -10,7 +10,7 @@ use Rattle.kk_field.specs.Polynomial.{IsIrreducible}
 use Rattle.kk_code.specs.declared.fault.TicketFault.{TicketFault}
 use Rattle.kk_code.specs.declared.fault.TicketFault.TheVariants as fault
 use Rattle.kk_words.specs.declared.command.Command.TheVariants.{Unpack}
-use Rattle.kk_words.specs.declared.argument.Name.TheVariants.{Most}
+use Rattle.kk_words.specs.declared.argument.Name.TheVariants.{Extra, Pack as FramesOfDatagram, Rate, Idle, Most}
 use Rattle.kk_words.specs.declared.command.Command.{Command}
 use Rattle.kk_words.specs.Commands.{command_named}
 use Rattle.kk_words.specs.Request.{Request, request_of, request_for, request_from, is_of_form, matches_for, number_of}
@@ -90,7 +90,11 @@ refused_tells words (Ticket f) status why is other = record {
     λ h. absurd (no_fault h.0 f h.2 (subst (λ l. IsFirstFault l f) (same_text words why.0 h.0 why.1 h.1 why.2 h.3) why.3) h.4),
   );
 }
-refused_tells words (Range name) status why is other = record {
+refused_tells words (Range Extra) status why is other = absurd why
+refused_tells words (Range FramesOfDatagram) status why is other = absurd why
+refused_tells words (Range Rate) status why is other = absurd why
+refused_tells words (Range Idle) status why is other = absurd why
+refused_tells words (Range Most) status why is other = record {
   words_refused = (λ e. absurd (omega (arith, e, is)), λ none. absurd (none why.3.request why.3.asked));
   ticket_refused = (
     λ e. absurd (omega (arith, e, is)),

@@ -4,6 +4,7 @@ use Rattle.std.specs.Fmt.{decimal}
 use Rattle.kk_code.specs.declared.fault.TicketFault.{TicketFault}
 use Rattle.kk_code.specs.declared.fault.TicketFault.TheVariants.{Shape, Range as PartOutOfRange, NotIrreducible, TooMany}
 use Rattle.kk_words.specs.Arguments.{text_of_name}
+use Rattle.kk_words.specs.declared.argument.Name.{Name}
 use Rattle.kk_top.specs.declared.refusal.Refusal.{Refusal}
 use Rattle.kk_top.specs.declared.refusal.Refusal.TheVariants.{Words, Ticket, Range, Input, Length, Memory}
 use Rattle.kk_sender.specs.declared.fault.FileFault.{FileFault}
@@ -28,6 +29,10 @@ ticket_cause (PartOutOfRange field) = codes "ticket range " ++ decimal field
 ticket_cause NotIrreducible = codes "ticket not irreducible"
 ticket_cause (TooMany generations) = codes "ticket too many generations " ++ decimal generations
 
+-- which number is out of its range
+abbrev pub range_cause : Name → List ℕ
+range_cause name = codes "range " ++ text_of_name name
+
 -- how many bytes a source gave that doesn't have as many as the file
 abbrev pub length_cause : ℕ → Bool → List ℕ
 length_cause got more = if more then codes "length more" else codes "length " ++ decimal got
@@ -35,7 +40,7 @@ length_cause got more = if more then codes "length more" else codes "length " ++
 abbrev pub cause : Refusal → List ℕ
 cause Words = codes "words"
 cause (Ticket fault) = ticket_cause fault
-cause (Range name) = codes "range " ++ text_of_name name
+cause (Range name) = range_cause name
 cause Input = codes "input fault"
 cause (Length got more) = length_cause got more
 cause Memory = codes "memory"

@@ -45,6 +45,13 @@ pub fn run<R, S: Source, K: Sink, P: Sink, G: Gate + Send, O: Outlet>(
         → Unpacks (texts words.now) (change (S.told source.old) (S.told source.new))
         (change (K.told file.old) (K.told file.new)) (change (P.told report.old) (P.told report.new)) result }
 
+    ensures sends { named_in (texts words.now) ≡ Some Command.Send
+        → IsRefused Refusal.Words result (change (P.told report.old) (P.told report.new)) }
+    ensures relays { named_in (texts words.now) ≡ Some Command.Relay
+        → IsRefused Refusal.Words result (change (P.told report.old) (P.told report.new)) }
+    ensures receives { named_in (texts words.now) ≡ Some Command.Recv
+        → IsRefused Refusal.Words result (change (P.told report.old) (P.told report.new)) }
+
     // Words that aren't of a command's form read nothing, and a refusal writes nothing but its report.
     ensures unread { result ≡ 1 → source.new ≡ source.old }
     ensures unwritten { (MayTouchFile result → ⊥) → file.new ≡ file.old }
@@ -60,5 +67,7 @@ pub fn run<R, S: Source, K: Sink, P: Sink, G: Gate + Send, O: Outlet>(
         Command::Plan => run_plan(alloc, words, source, file, report),
         Command::Pack => run_pack(alloc, words, source, file, report),
         Command::Unpack => run_unpack(alloc, words, source, file, report),
+        // Not built yet.
+        Command::Send | Command::Relay | Command::Recv => refuse(Refusal::Words, report),
     }
 }

@@ -1,7 +1,7 @@
 //! Why a command is refused.
 ghost use Rattle.std.specs.Prelude.{◌≡◌, ◌≤◌};
 ghost use Rattle.arrayvec.specs.ArrayString.{array_string_len};
-ghost use Rattle.kk_top.specs.Refusal.{status_of, cause, ticket_cause, length_cause, refusal_of, refusal_text};
+ghost use Rattle.kk_top.specs.Refusal.{status_of, cause, range_cause, ticket_cause, length_cause, refusal_of, refusal_text};
 
 use crate::lines::{Line, line_of, numbered, status_line};
 use kk_code::TicketFault;
@@ -74,11 +74,25 @@ impl Refusal {
         match self {
             Refusal::Words => line_of("words"),
             Refusal::Ticket(fault) => ticket_cause(fault),
-            Refusal::Range(Name::Most) => line_of("range most"),
+            Refusal::Range(name) => range_cause(name),
             Refusal::Input => line_of("input fault"),
             Refusal::Length { got, more } => length_cause(got, more),
             Refusal::Memory => line_of("memory"),
         }
+    }
+}
+
+/// Which number is out of its range, without a line feed.
+fn range_cause(name: Name) -> Line
+    ensures text { result.bytes ≡ range_cause name }
+    ensures short { array_string_len result ≤ 48 }
+{
+    match name {
+        Name::Extra => line_of("range extra"),
+        Name::Pack => line_of("range pack"),
+        Name::Rate => line_of("range rate"),
+        Name::Idle => line_of("range idle"),
+        Name::Most => line_of("range most"),
     }
 }
 

@@ -1,8 +1,7 @@
 //! What the words ask of a command, and the ranges of its numbers.
-ghost use Rattle.std.specs.Prelude.{◌≡◌, ◌⊎◌, Err, IfOk, IfErr, IfSome, IsNone, IsSome, IsTrue, count_by, is_some, length};
+ghost use Rattle.std.specs.Prelude.{◌≡◌, ◌⊎◌, Err, IfOk, IfErr, IfSome, IsNone, IsSome, IsTrue, is_some, length};
 ghost use Rattle.kk_words.specs.Arguments.{default_of};
-ghost use Rattle.kk_words.specs.Commands.{form_of};
-ghost use Rattle.kk_words.specs.Request.{has_number, is_word, number_of};
+ghost use Rattle.kk_words.specs.Request.{HasTexts, has_number, has_seed, number_of};
 ghost use Rattle.kk_top.specs.Command.{texts};
 ghost use Rattle.kk_top.specs.Words.{IsRequestFor, AsksNothingOf, named_in, IsMost};
 
@@ -26,8 +25,9 @@ pub(crate) fn asked_of(alloc: Global, words: &[String], command: Command) -> Res
     ensures words { result ≡ Err Refusal.Words → AsksNothingOf (texts words.now) command }
     ensures no_other { IfErr result (λ refusal. (refusal ≡ Refusal.Words) ⊎ (refusal ≡ Refusal.Memory)) }
 
-    // Each word of the command's form has a text, and each number of it that has a default is there.
-    ensures texts { IfOk result (λ asked. length asked.texts ≡ count_by is_word (form_of command)) }
+    // Each word of the command's form has a text; its seed is there, and each of its numbers that has a default.
+    ensures texts { IfOk result (λ asked. HasTexts command (length asked.texts)) }
+    ensures seed { IfOk result (λ asked. IsTrue (has_seed command) → IsSome asked.seed) }
     ensures numbers { IfOk result (λ asked. (name : Name) → IsTrue (is_some (default_of name)) → IsTrue (has_number command name) → IsSome (number_of asked.numbers name)) }
 {
     let asked = match read_words(alloc, words) {

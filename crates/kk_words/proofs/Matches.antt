@@ -1,5 +1,5 @@
 -- What the getters of clap read, by its matches, and the steps of the loops over a form.
-use Rattle.std.proofs.Common.{◌≡◌, ◌∙◌, ℕ, ◌+◌, ◌<◌, Bool, true, false, refl, sym, ap, ap₂, arith, List, [], ◌∷◌, ◌++◌, map, length, take, Option, Some, None, Result, Ok, Err, option_map, get_or, append-nil, is_some, ◌||◌, true≢false, suc}
+use Rattle.std.proofs.Common.{◌≡◌, ◌∙◌, ℕ, ◌+◌, ◌<◌, Bool, true, false, refl, sym, ap, ap₂, arith, List, [], ◌∷◌, ◌++◌, map, length, take, Option, Some, None, Result, Ok, Err, option_map, get_or, append-nil, is_some, ◌||◌, true≢false, suc, codes, ◌≤◌}
 use Rattle.std.specs.Prelude.{unwrap_or, ◌^◌}
 use Rattle.std.specs.Borrow.{Bor}
 use Rattle.std.specs.List.{cons_option, count_by, filter_map, find, flat_map, list_any}
@@ -8,15 +8,26 @@ use Rattle.std.specs.Str.Parse.{ParsesUnsigned, digits_value, without_leading_pl
 use Rattle.std.proofs.lemmas.Grind.{flat_map-append}
 use Rattle.std.proofs.lemmas.List.Elements.{filter_map-append}
 use Rattle.std.proofs.lemmas.List.{take_more}
-use Rattle.clap.specs.Walk.{Row, Text}
+use Rattle.clap.specs.Matches.{matched_of, raw_values}
+use Rattle.clap.specs.Walk.{Row, Text, all_of, rows_of}
+use Rattle.clap.specs.declared.parser.matches.Found.{Found}
+use Rattle.clap.proofs.WalkLemmas.{raw_values-rows}
 use Rattle.clap.specs.ValueTests.{accepts}
 use Rattle.clap.proofs.ValueTestLemmas.{accepts-Accepts, Accepts-accepts}
-use Rattle.kk_words.specs.Arguments.{default_of, unsigned_64}
-use Rattle.kk_words.specs.declared.argument.Name.TheVariants.{Most}
-use Rattle.kk_words.specs.Request.{is_name, is_number, is_word, number_at, number_of, number_given, number_read, numbers_at, numbers_in, or_default, texts_at, texts_in}
+use Rattle.kk_words.specs.Arguments.{default_of, text_of_word, unsigned_64}
+use Rattle.kk_words.specs.declared.argument.Name.TheVariants as name
+use Rattle.kk_words.specs.Request.{is_name, is_number, number_at, number_of, number_given, text_at, number_read, numbers_at, numbers_in, or_default, HasTexts, all_texts_at, has_seed, seed_in, texts_at, texts_in}
+use Rattle.clap.specs.Simple.{matches_of}
+use Rattle.clap.specs.Takes.{is_given, takes}
+use Rattle.clap.proofs.WalkLemmas.{both}
+use Rattle.kk_words.specs.Commands.{app_for, form_of}
+use Rattle.kk_words.specs.declared.command.Command.{Command}
+use Rattle.kk_words.specs.declared.command.Command.TheVariants as command
+use Rattle.kk_words.proofs.Given.{given_first, given_values, has_some, taken_filled, taken_required}
 use Rattle.kk_words.specs.declared.argument.Argument.{Argument}
-use Rattle.kk_words.specs.declared.argument.Argument.TheVariants.{Word, Number}
+use Rattle.kk_words.specs.declared.argument.Argument.TheVariants.{Word, Words, Seed, Number}
 use Rattle.kk_words.specs.declared.argument.Word.{Word as TheWord}
+use Rattle.kk_words.specs.declared.argument.Word.TheVariants.{Ticket}
 use Rattle.kk_words.specs.declared.argument.Name.{Name}
 
 pub text_or : (r : Option (Bor Text)) (o : Option Text) (d : Bor Text) → option_map (λ s. s.now) r ≡ o → (unwrap_or r d).now ≡ unwrap_or o d.now
@@ -57,16 +68,56 @@ numbers_more rows form i d old new lt before more =
     more ∙ ap (λ ns. ns ++ cons_option (numbers_at rows (get_or form i d)) []) before
     ∙ sym (ap (λ f. filter_map (numbers_at rows) f) (take_more form i d lt) ∙ filter_map-append (numbers_at rows) (take i form) (get_or form i d ∷ []))
 
-pub no_text : (rows : List Row) (a : Argument) → ((w : TheWord) → a ≡ Word w → ⊥) → texts_at rows a ≡ []
-no_text rows (Word w) none = absurd (none w refl)
-no_text rows (Number n) none = refl
+pub no_text : (rows : List Row) (a : Argument) → ((w : TheWord) → a ≡ Word w → ⊥) → ((w : TheWord) → a ≡ Words w → ⊥) → texts_at rows a ≡ []
+no_text rows (Word w) none no_more = absurd (none w refl)
+no_text rows (Words w) none no_more = absurd (no_more w refl)
+no_text rows Seed none no_more = refl
+no_text rows (Number n) none no_more = refl
+
+-- the texts of a word that was given are its values
+pub all_texts : (f : Found) (w : TheWord) (id : Text) (old given new : List Text) → id ≡ text_of_word w
+    → Some given ≡ option_map raw_values (matched_of f id) → new ≡ old ++ given → new ≡ old ++ all_texts_at (rows_of f) w
+all_texts f w id old given new same values more =
+    more ∙ ap (λ ts. old ++ unwrap_or ts []) (values ∙ raw_values-rows f id ∙ ap (λ t. all_of t (rows_of f)) same)
+
+-- a word that was not given has no texts
+pub no_texts : (f : Found) (w : TheWord) (id : Text) (old : List Text) → id ≡ text_of_word w → None ≡ option_map raw_values (matched_of f id)
+    → old ≡ old ++ all_texts_at (rows_of f) w
+no_texts f w id old same none =
+    sym (ap (λ ts. old ++ unwrap_or ts []) (ap (λ t. all_of t (rows_of f)) (sym same) ∙ sym (raw_values-rows f id) ∙ sym none) ∙ append-nil old)
 
 pub no_number : (rows : List Row) (a : Argument) → ((n : Name) → a ≡ Number n → ⊥) → numbers_at rows a ≡ None
 no_number rows (Word w) none = refl
+no_number rows (Words w) none = refl
+no_number rows Seed none = refl
 no_number rows (Number n) none = absurd (none n refl)
 
 same_name : (m n : Name) → is_name m n ≡ true → m ≡ n
-same_name Most Most e = refl
+same_name name.Extra name.Extra e = refl
+same_name name.Extra name.Pack e = absurd (true≢false (sym e))
+same_name name.Extra name.Rate e = absurd (true≢false (sym e))
+same_name name.Extra name.Idle e = absurd (true≢false (sym e))
+same_name name.Extra name.Most e = absurd (true≢false (sym e))
+same_name name.Pack name.Extra e = absurd (true≢false (sym e))
+same_name name.Pack name.Pack e = refl
+same_name name.Pack name.Rate e = absurd (true≢false (sym e))
+same_name name.Pack name.Idle e = absurd (true≢false (sym e))
+same_name name.Pack name.Most e = absurd (true≢false (sym e))
+same_name name.Rate name.Extra e = absurd (true≢false (sym e))
+same_name name.Rate name.Pack e = absurd (true≢false (sym e))
+same_name name.Rate name.Rate e = refl
+same_name name.Rate name.Idle e = absurd (true≢false (sym e))
+same_name name.Rate name.Most e = absurd (true≢false (sym e))
+same_name name.Idle name.Extra e = absurd (true≢false (sym e))
+same_name name.Idle name.Pack e = absurd (true≢false (sym e))
+same_name name.Idle name.Rate e = absurd (true≢false (sym e))
+same_name name.Idle name.Idle e = refl
+same_name name.Idle name.Most e = absurd (true≢false (sym e))
+same_name name.Most name.Extra e = absurd (true≢false (sym e))
+same_name name.Most name.Pack e = absurd (true≢false (sym e))
+same_name name.Most name.Rate e = absurd (true≢false (sym e))
+same_name name.Most name.Idle e = absurd (true≢false (sym e))
+same_name name.Most name.Most e = refl
 
 no_default : (given default : Option ℕ) → or_default given default ≡ None → is_some default ≡ false
 no_default (Some x) default e = cc
@@ -91,4 +142,44 @@ pub numbers_there : (form : List Argument) (rows : List Row) (n : Name) → is_s
     → is_some (number_of (numbers_in form rows) n) ≡ true
 numbers_there [] rows n default e = absurd (true≢false (sym e))
 numbers_there (Word w ∷ form) rows n default e = numbers_there form rows n default e
+numbers_there (Words w ∷ form) rows n default e = numbers_there form rows n default e
+numbers_there (Seed ∷ form) rows n default e = numbers_there form rows n default e
 numbers_there (Number m ∷ form) rows n default e = there rows form m n default (numbers_there form rows n default) e
+
+-- ---- the texts and the seed of a command
+
+two_or_more : (first : Text) (vs : List Text) → has_some vs ≡ true → 2 ≤ length (first ∷ vs ++ [])
+two_or_more first [] e = absurd (true≢false (sym e))
+two_or_more first (v ∷ vs) e = omega arith
+
+-- each word of a command has a text
+pub texts_there : (command : Command) (words : List Text) → takes (app_for command) words ≡ true
+    → HasTexts command (length (texts_in (form_of command) (matches_of (app_for command) words)))
+texts_there command.Plan words e = refl
+texts_there command.Pack words e = refl
+texts_there command.Unpack words e = refl
+texts_there command.Send words e = refl
+texts_there command.Relay words e = refl
+texts_there command.Recv words e =
+    let rows = matches_of (app_for command.Recv) words in
+    let listen = (both (is_given (codes "LISTEN") rows) true (both (is_given (codes "TICKET") rows) _ (taken_required command.Recv words e)).1).0 in
+    two_or_more (text_at rows Ticket) _ (given_values (codes "LISTEN") rows (taken_filled command.Recv words e) listen)
+
+-- a command that has a seed was given it
+pub seed_there : (command : Command) (words : List Text) → takes (app_for command) words ≡ true → has_seed command ≡ true
+    → is_some (seed_in (matches_of (app_for command) words)) ≡ true
+seed_there command.Plan words e has = absurd (true≢false (sym has))
+seed_there command.Pack words e has = absurd (true≢false (sym has))
+seed_there command.Unpack words e has = absurd (true≢false (sym has))
+seed_there command.Recv words e has = absurd (true≢false (sym has))
+seed_there command.Send words e has =
+    let rows = matches_of (app_for command.Send) words in
+    let target = (both (is_given (codes "TICKET") rows) _ (taken_required command.Send words e)).1 in
+    let seed = (both (is_given (codes "TARGET") rows) _ target).1 in
+    given_first (codes "seed") rows (taken_filled command.Send words e) (both (is_given (codes "seed") rows) true seed).0
+seed_there command.Relay words e has =
+    let rows = matches_of (app_for command.Relay) words in
+    let target = (both (is_given (codes "TICKET") rows) _ (taken_required command.Relay words e)).1 in
+    let listen = (both (is_given (codes "TARGET") rows) _ target).1 in
+    let seed = (both (is_given (codes "LISTEN") rows) _ listen).1 in
+    given_first (codes "seed") rows (taken_filled command.Relay words e) (both (is_given (codes "seed") rows) true seed).0

@@ -15,7 +15,7 @@ use Rattle.clap.proofs.FaultLemmas.{leaf_fault}
 use Rattle.clap.proofs.TakesLemmas.{leaf_takes}
 use Rattle.std.specs.declared.alloc.Global.{Global}
 use Rattle.kk_words.specs.declared.command.Command.{Command}
-use Rattle.kk_words.specs.declared.command.Command.TheVariants.{Plan, Pack, Unpack}
+use Rattle.kk_words.specs.declared.command.Command.TheVariants.{Plan, Pack, Unpack, Send, Relay, Recv}
 use Rattle.kk_words.specs.Arguments.{rule_of_argument}
 use Rattle.kk_words.specs.Commands.{app_for, app_with, command_named, form_of, name_of}
 use Rattle.kk_words.specs.Request.{request_of, request_for, is_of_form, Request, matches_for, numbers_in, request_from, seed_in, texts_in}
@@ -278,21 +278,33 @@ free_rules : (command : Command) → list_all (λ a. a.is_free) (filled_from 1 (
 free_rules Plan = refl
 free_rules Pack = refl
 free_rules Unpack = refl
+free_rules Send = refl
+free_rules Relay = refl
+free_rules Recv = refl
 
 free_defaults : (command : Command) → list_all default_passes (filled_from 1 (map rule_of_argument (form_of command))) ≡ true
 free_defaults Plan = refl
 free_defaults Pack = refl
 free_defaults Unpack = refl
+free_defaults Send = refl
+free_defaults Relay = refl
+free_defaults Recv = refl
 
 pub simple_and_free : (command : Command) → is_simple_and_free (app_for command) ≡ true
 simple_and_free Plan = refl
 simple_and_free Pack = refl
 simple_and_free Unpack = refl
+simple_and_free Send = refl
+simple_and_free Relay = refl
+simple_and_free Recv = refl
 
 pub simple : (command : Command) → is_simple (app_for command) ≡ true
 simple Plan = refl
 simple Pack = refl
 simple Unpack = refl
+simple Send = refl
+simple Relay = refl
+simple Recv = refl
 
 -- where clap finds no fault in the words, it takes them
 pub taken : (command : Command) (words : List Text) → fault_of (app_for command) words ≡ [] → takes (app_for command) words ≡ true

@@ -1,6 +1,8 @@
 -- What a command may be given, as clap reads it.
 use Rattle.std.specs.Prelude.{ℕ, List, Option, Some, None, true, codes}
+use Rattle.clap.specs.Lexer.{usize_max}
 use Rattle.clap.specs.Walk.{Rule}
+use Rattle.clap.specs.declared.builder.range.ValueRange.{ValueRange}
 use Rattle.clap.specs.Simple.{new_rule}
 use Rattle.clap.specs.declared.builder.action.ArgAction.TheVariants.{Set}
 use Rattle.clap.specs.declared.builder.value_parser.ValueParser.{ValueParser}
@@ -20,13 +22,27 @@ text_of_word word.Mod = codes "MOD"
 text_of_word word.L = codes "L"
 text_of_word word.K = codes "K"
 text_of_word word.Ticket = codes "TICKET"
+text_of_word word.Target = codes "TARGET"
+text_of_word word.Listen = codes "LISTEN"
 
 -- the long name of an option
 abbrev pub text_of_name : Name → List ℕ
+text_of_name name.Extra = codes "extra"
+text_of_name name.Pack = codes "pack"
+text_of_name name.Rate = codes "rate"
+text_of_name name.Idle = codes "idle"
 text_of_name name.Most = codes "most"
+
+-- the long name of the option of a seed
+abbrev pub seed_name : List ℕ
+seed_name = codes "seed"
 
 -- the number of an option that is left out
 abbrev pub default_of : Name → Option ℕ
+default_of name.Extra = Some 0
+default_of name.Pack = Some 32
+default_of name.Rate = Some 1
+default_of name.Idle = Some 300
 default_of name.Most = Some 10000000
 
 -- the reader of an unsigned 64-bit number
@@ -36,12 +52,24 @@ unsigned_64 = Unsigned 0 18446744073709551615
 -- by what clap knows an argument
 abbrev pub id_of : Argument → List ℕ
 id_of (argument.Word w) = text_of_word w
+id_of (argument.Words w) = text_of_word w
+id_of argument.Seed = seed_name
 id_of (argument.Number n) = text_of_name n
 
--- A word is required and stands at a place of its own. An option has a long name, no short one, the action Set and one
--- value, a number, and may be left out.
+-- one value or more
+abbrev pub one_or_more : ValueRange
+one_or_more = record { start_inclusive = 1; end_inclusive = usize_max }
+
+-- A word is required and stands at a place of its own; the last may stand several times. An option has a long name, no
+-- short one, the action Set and one value: the text of a seed, which is required, or a number, which may be left out.
 abbrev pub rule_of_argument : Argument → Rule
 rule_of_argument (argument.Word w) = record (new_rule (text_of_word w)) { required = true }
+rule_of_argument (argument.Words w) = record (new_rule (text_of_word w)) { required = true; range = Some one_or_more }
+rule_of_argument argument.Seed = record (new_rule seed_name) {
+  long = Some seed_name;
+  action = Some Set;
+  required = true;
+}
 rule_of_argument (argument.Number n) = record (new_rule (text_of_name n)) {
   long = Some (text_of_name n);
   action = Some Set;

@@ -8,17 +8,20 @@ use Rattle.kk_words.specs.declared.argument.Argument.TheVariants as argument
 use Rattle.kk_words.specs.declared.argument.Word.TheVariants as word
 use Rattle.kk_words.specs.declared.argument.Name.TheVariants as name
 use Rattle.kk_words.specs.declared.command.Command.{Command}
-use Rattle.kk_words.specs.declared.command.Command.TheVariants.{Plan, Pack, Unpack}
+use Rattle.kk_words.specs.declared.command.Command.TheVariants.{Plan, Pack, Unpack, Send, Relay, Recv}
 use Rattle.kk_words.specs.Arguments.{rule_of_argument}
 
 abbrev pub commands : List Command
-commands = Plan ∷ Pack ∷ Unpack ∷ []
+commands = Plan ∷ Pack ∷ Unpack ∷ Send ∷ Relay ∷ Recv ∷ []
 
 -- the first word of a command
 abbrev pub name_of : Command → Text
 name_of Plan = codes "plan"
 name_of Pack = codes "pack"
 name_of Unpack = codes "unpack"
+name_of Send = codes "send"
+name_of Relay = codes "relay"
+name_of Recv = codes "recv"
 
 -- the command that a first word names
 abbrev pub command_named : Text → Option Command
@@ -29,6 +32,11 @@ abbrev pub form_of : Command → List Argument
 form_of Plan = argument.Word word.Session ∷ argument.Word word.M ∷ argument.Word word.Mod ∷ argument.Word word.L ∷ argument.Word word.K ∷ []
 form_of Pack = argument.Word word.Ticket ∷ []
 form_of Unpack = argument.Word word.Ticket ∷ argument.Number name.Most ∷ []
+form_of Send =
+    argument.Word word.Ticket ∷ argument.Word word.Target ∷ argument.Seed ∷ argument.Number name.Extra ∷ argument.Number name.Pack ∷ []
+form_of Relay = argument.Word word.Ticket ∷ argument.Word word.Target ∷ argument.Word word.Listen ∷ argument.Seed
+    ∷ argument.Number name.Rate ∷ argument.Number name.Idle ∷ argument.Number name.Most ∷ []
+form_of Recv = argument.Word word.Ticket ∷ argument.Words word.Listen ∷ argument.Number name.Idle ∷ argument.Number name.Most ∷ []
 
 -- clap's simple command of a name and arguments, without the options --help and --version, and with nothing else set
 abbrev pub app_with : Text → List Rule → App

@@ -1,18 +1,19 @@
 -- What words ask for.
-use Rattle.std.specs.Prelude.{ℕ, Bool, true, false, List, [], ◌∷◌, Option, Some, None, if◌then◌else◌, codes, find, option_map, option_and_then, unwrap_or}
+use Rattle.std.specs.Prelude.{◌≡◌, ◌≤◌, ℕ, Bool, true, false, List, [], ◌∷◌, Option, Some, None, if◌then◌else◌, codes, find, option_map, option_and_then, unwrap_or}
 use Rattle.std.specs.List.{filter_map, flat_map, list_any}
 use Rattle.std.specs.Str.Parse.{digits_value, without_leading_plus}
-use Rattle.clap.specs.Walk.{Row, Text, first_of}
+use Rattle.clap.specs.Walk.{Row, Text, all_of, first_of}
 use Rattle.clap.specs.Simple.{matches_of}
 use Rattle.clap.specs.Takes.{takes}
 use Rattle.clap.specs.ValueTests.{accepts}
 use Rattle.kk_words.specs.declared.argument.Argument.{Argument}
-use Rattle.kk_words.specs.declared.argument.Argument.TheVariants.{Word, Number}
+use Rattle.kk_words.specs.declared.argument.Argument.TheVariants.{Word, Words, Seed, Number}
 use Rattle.kk_words.specs.declared.argument.Word.{Word as TheWord}
 use Rattle.kk_words.specs.declared.argument.Name.{Name}
-use Rattle.kk_words.specs.declared.argument.Name.TheVariants.{Most}
+use Rattle.kk_words.specs.declared.argument.Name.TheVariants.{Extra, Pack as FramesOfDatagram, Rate, Idle, Most}
 use Rattle.kk_words.specs.declared.command.Command.{Command}
-use Rattle.kk_words.specs.Arguments.{default_of, text_of_name, text_of_word, unsigned_64}
+use Rattle.kk_words.specs.declared.command.Command.TheVariants as command
+use Rattle.kk_words.specs.Arguments.{default_of, seed_name, text_of_name, text_of_word, unsigned_64}
 use Rattle.kk_words.specs.Commands.{app_for, command_named, form_of}
 
 -- a command with its texts, its seed, and each of its numbers under its name
@@ -30,8 +31,14 @@ number_read text = if accepts false unsigned_64 text then Some (digits_value 10 
 abbrev pub text_at : List Row → TheWord → Text
 text_at rows w = unwrap_or (first_of (text_of_word w) rows) []
 
+-- the texts that were given for a word that may stand several times
+abbrev pub all_texts_at : List Row → TheWord → List Text
+all_texts_at rows w = unwrap_or (all_of (text_of_word w) rows) []
+
 abbrev pub texts_at : List Row → Argument → List Text
 texts_at rows (Word w) = text_at rows w ∷ []
+texts_at rows (Words w) = all_texts_at rows w
+texts_at rows Seed = []
 texts_at rows (Number n) = []
 
 -- the texts that were given for the words of a form, in its order
@@ -40,7 +47,7 @@ texts_in form rows = flat_map (texts_at rows) form
 
 -- the text that was given for the seed
 abbrev pub seed_in : List Row → Option Text
-seed_in rows = first_of (codes "seed") rows
+seed_in rows = first_of seed_name rows
 
 -- the number that was given under a name
 abbrev pub number_given : List Row → Name → Option ℕ
@@ -56,6 +63,8 @@ number_at rows n = or_default (number_given rows n) (default_of n)
 
 abbrev pub numbers_at : List Row → Argument → Option (Name × ℕ)
 numbers_at rows (Word w) = None
+numbers_at rows (Words w) = None
+numbers_at rows Seed = None
 numbers_at rows (Number n) = option_map (λ number. (n, number)) (number_at rows n)
 
 -- the numbers of a form, each under its name
@@ -63,19 +72,37 @@ abbrev pub numbers_in : List Argument → List Row → List (Name × ℕ)
 numbers_in form rows = filter_map (numbers_at rows) form
 
 abbrev pub is_name : Name → Name → Bool
+is_name Extra Extra = true
+is_name FramesOfDatagram FramesOfDatagram = true
+is_name Rate Rate = true
+is_name Idle Idle = true
 is_name Most Most = true
+is_name m n = false
 
 abbrev pub is_number : Name → Argument → Bool
-is_number n (Word w) = false
 is_number n (Number m) = is_name m n
+is_number n other = false
 
-abbrev pub is_word : Argument → Bool
-is_word (Word w) = true
-is_word (Number n) = false
+abbrev pub is_seed : Argument → Bool
+is_seed Seed = true
+is_seed other = false
 
 -- a command has this number
 abbrev pub has_number : Command → Name → Bool
 has_number command n = list_any (is_number n) (form_of command)
+
+-- a command has a seed
+abbrev pub has_seed : Command → Bool
+has_seed command = list_any is_seed (form_of command)
+
+-- how many texts a command has: one of each word, and one or more of a word that may stand several times
+abbrev pub HasTexts : Command → ℕ → Type 0
+HasTexts command.Plan n = n ≡ 5
+HasTexts command.Pack n = n ≡ 1
+HasTexts command.Unpack n = n ≡ 1
+HasTexts command.Send n = n ≡ 2
+HasTexts command.Relay n = n ≡ 3
+HasTexts command.Recv n = 2 ≤ n
 
 -- the request for a command that these matches make
 unfoldable pub request_from : Command → List Row → Request

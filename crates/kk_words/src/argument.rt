@@ -6,7 +6,10 @@ ghost use Rattle.kk_words.specs.Arguments.{text_of_word, text_of_name, default_o
 use clap::{Arg, ArgAction, value_parser};
 use std::alloc::Global;
 
-/// A word that stands at a place of its own behind the command's name.
+/// The long name of the option of a seed.
+pub(crate) const SEED: &str = "seed";
+
+/// A word that stands at a place of its own after the command's name.
 #[derive(Clone, Copy, Debug, PartialEq, Eq)]
 pub(crate) enum Word {
     Session,
@@ -15,6 +18,8 @@ pub(crate) enum Word {
     L,
     K,
     Ticket,
+    Target,
+    Listen,
 }
 
 impl Word {
@@ -29,6 +34,8 @@ impl Word {
             Word::L => "L",
             Word::K => "K",
             Word::Ticket => "TICKET",
+            Word::Target => "TARGET",
+            Word::Listen => "LISTEN",
         }
     }
 }
@@ -36,6 +43,14 @@ impl Word {
 /// A number that a command may be given, by the option `--name N`.
 #[derive(Clone, Copy, Debug, PartialEq, Eq)]
 pub enum Name {
+    /// How many combinations of a generation's rows are sent after the rows themselves.
+    Extra,
+    /// How many frames a datagram has.
+    Pack,
+    /// How many combinations are sent for each data frame that comes.
+    Rate,
+    /// How many times in a row a gate may tell that nothing came, before it ends.
+    Idle,
     /// How many datagrams are taken of a gate.
     Most,
 }
@@ -46,6 +61,10 @@ impl Name {
         ensures { result.now ≡ text_of_name self }
     {
         match self {
+            Name::Extra => "extra",
+            Name::Pack => "pack",
+            Name::Rate => "rate",
+            Name::Idle => "idle",
             Name::Most => "most",
         }
     }
@@ -55,6 +74,10 @@ impl Name {
         ensures { result ≡ default_of self }
     {
         match self {
+            Name::Extra => Some(0),
+            Name::Pack => Some(32),
+            Name::Rate => Some(1),
+            Name::Idle => Some(300),
             Name::Most => Some(10_000_000),
         }
     }
@@ -65,6 +88,10 @@ impl Name {
 pub(crate) enum Argument {
     /// A required word, of any text.
     Word(Word),
+    /// One word or more, each of any text, after all others.
+    Words(Word),
+    /// The option `--seed HEX` with a text, which is required.
+    Seed,
     /// An option with a number, which may be left out.
     Number(Name),
 }
@@ -79,6 +106,8 @@ impl Argument {
         let argument = Arg::new(alloc, id);
         match self {
             Argument::Word(_) => argument.required(true),
+            Argument::Words(_) => argument.required(true).num_args(1..),
+            Argument::Seed => argument.long(id).action(ArgAction::Set).required(true),
             Argument::Number(_) => argument
                 .long(id)
                 .action(ArgAction::Set)
@@ -91,7 +120,8 @@ impl Argument {
         ensures { result.now ≡ id_of self }
     {
         match self {
-            Argument::Word(word) => word.text(),
+            Argument::Word(word) | Argument::Words(word) => word.text(),
+            Argument::Seed => SEED,
             Argument::Number(name) => name.text(),
         }
     }

@@ -65,7 +65,7 @@ impl Asked {
         self.texts.len()
     }
 
-    /// Text `i`: of the words behind the first that stand at places of their own and are no numbers, the one at place `i`.
+    /// Text `i`: of the words after the first that stand at places of their own and are no numbers, the one at place `i`.
     pub fn text(&self, i: usize) -> &str
         requires { i < length self.now.texts }
         ensures { slice_get self.now.texts i ≡ Some result.now }

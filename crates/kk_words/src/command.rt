@@ -10,6 +10,9 @@ pub enum Command {
     Plan,
     Pack,
     Unpack,
+    Send,
+    Relay,
+    Recv,
 }
 
 /// A session, the code's parameters, and nothing on the file, whose length the source tells.
@@ -25,6 +28,32 @@ const PACK: [Argument; 1] = [Argument::Word(Word::Ticket)];
 
 const UNPACK: [Argument; 2] = [Argument::Word(Word::Ticket), Argument::Number(Name::Most)];
 
+const SEND: [Argument; 5] = [
+    Argument::Word(Word::Ticket),
+    Argument::Word(Word::Target),
+    Argument::Seed,
+    Argument::Number(Name::Extra),
+    Argument::Number(Name::Pack),
+];
+
+const RELAY: [Argument; 7] = [
+    Argument::Word(Word::Ticket),
+    Argument::Word(Word::Target),
+    Argument::Word(Word::Listen),
+    Argument::Seed,
+    Argument::Number(Name::Rate),
+    Argument::Number(Name::Idle),
+    Argument::Number(Name::Most),
+];
+
+/// A receiver listens at one address or more.
+const RECV: [Argument; 4] = [
+    Argument::Word(Word::Ticket),
+    Argument::Words(Word::Listen),
+    Argument::Number(Name::Idle),
+    Argument::Number(Name::Most),
+];
+
 impl Command {
     /// The command that a first word names.
     pub fn named(name: &str) -> Option<Command>
@@ -34,6 +63,9 @@ impl Command {
             "plan" => Some(Command::Plan),
             "pack" => Some(Command::Pack),
             "unpack" => Some(Command::Unpack),
+            "send" => Some(Command::Send),
+            "relay" => Some(Command::Relay),
+            "recv" => Some(Command::Recv),
             _ => None,
         }
     }
@@ -46,6 +78,9 @@ impl Command {
             Command::Plan => "plan",
             Command::Pack => "pack",
             Command::Unpack => "unpack",
+            Command::Send => "send",
+            Command::Relay => "relay",
+            Command::Recv => "recv",
         }
     }
 
@@ -57,6 +92,9 @@ impl Command {
             Command::Plan => &PLAN,
             Command::Pack => &PACK,
             Command::Unpack => &UNPACK,
+            Command::Send => &SEND,
+            Command::Relay => &RELAY,
+            Command::Recv => &RECV,
         }
     }
 }

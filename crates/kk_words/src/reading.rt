@@ -1,20 +1,17 @@
 //! From words to what they ask for.
-ghost use Rattle.std.specs.Prelude.{◌≡◌, None, Some, IfOk, IsSome, IsTrue, count_by, is_some, length, map, option_map, string_bytes};
+ghost use Rattle.std.specs.Prelude.{◌≡◌, ◌++◌, None, Some, IfOk, IsSome, IsTrue, is_some, length, map, option_map, string_bytes};
 ghost use Rattle.clap.specs.Matches.{found_of};
 ghost use Rattle.clap.specs.Walk.{rows_of};
 ghost use Rattle.clap.specs.Simple.{app_of};
 ghost use Rattle.kk_words.specs.Arguments.{default_of};
-ghost use Rattle.kk_words.specs.Commands.{app_for, form_of};
-ghost use Rattle.kk_words.specs.Request.{has_number, is_word, number_at, number_given, number_of, numbers_in, request_of, seed_in, text_at, texts_in};
+ghost use Rattle.kk_words.specs.Commands.{app_for};
+ghost use Rattle.kk_words.specs.Request.{HasTexts, all_texts_at, has_number, has_seed, number_at, number_given, number_of, numbers_in, request_of, seed_in, text_at, texts_in};
 
-use crate::argument::{Argument, Name, Word};
+use crate::argument::{Argument, Name, SEED, Word};
 use crate::fault::fault_of;
 use crate::{Asked, Command, WordsFault};
 use clap::ArgMatches;
 use std::alloc::{AllocError, Global};
-
-/// The option of a seed.
-const SEED: &str = "seed";
 
 /// What the words ask for. `words` are those of the command line, without the program's name.
 ///
@@ -23,8 +20,9 @@ pub fn read_words(alloc: Global, words: &[String]) -> Result<Asked, WordsFault>
     ensures given { IfOk result (λ given. request_of (map string_bytes words.now) ≡ Some given) }
     ensures refused { result ≡ Err WordsFault.Words → request_of (map string_bytes words.now) ≡ None }
 
-    // Each word of the command's form has a text, and each number of it that has a default is there.
-    ensures texts { IfOk result (λ given. length given.texts ≡ count_by is_word (form_of given.command)) }
+    // Each word of the command's form has a text; its seed is there, and each of its numbers that has a default.
+    ensures texts { IfOk result (λ given. HasTexts given.command (length given.texts)) }
+    ensures seed { IfOk result (λ given. IsTrue (has_seed given.command) → IsSome given.seed) }
     ensures numbers { IfOk result (λ given. (name : Name) → IsTrue (is_some (default_of name)) → IsTrue (has_number given.command name) → IsSome (number_of given.numbers name)) }
 {
     let Some(first) = words.first() else {
@@ -69,11 +67,31 @@ fn texts_in(
 {
     let mut texts = Vec::new(alloc);
     for argument in form {
-        if let Argument::Word(word) = argument {
-            texts.push(text_at(alloc, *word, matches)?)?;
+        match argument {
+            Argument::Word(word) => texts.push(text_at(alloc, *word, matches)?)?,
+            Argument::Words(word) => push_texts(alloc, *word, matches, &mut texts)?,
+            _ => {}
         }
     }
     Ok(texts)
+}
+
+/// Adds the texts that were given for a word that may stand several times.
+fn push_texts(
+    alloc: Global,
+    word: Word,
+    matches: &ArgMatches<'_>,
+    texts: &mut Vec<String>,
+) -> Result<(), AllocError>
+    ensures { IfOk result (λ _. map string_bytes texts.new.items ≡ map string_bytes texts.old.items ++ all_texts_at (rows_of (found_of matches.now)) word) }
+{
+    let Some(given) = matches.get_raw(word.text()) else {
+        return Ok(());
+    };
+    for text in given {
+        texts.push(String::from_str(alloc, text)?)?;
+    }
+    Ok(())
 }
 
 /// The text that was given for a word.

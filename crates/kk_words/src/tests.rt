@@ -1,5 +1,6 @@
 use super::*;
 use std::alloc::{AllocError, Global};
+use std::process::Abort;
 use std::test::*;
 
 /// The words of a line, parted by single spaces.
@@ -11,7 +12,7 @@ fn words_of(alloc: Global, line: &str) -> Result<Vec<String>, AllocError> {
     Ok(words)
 }
 
-/// What the words of a line ask for: the command, the number of `--most`, and the texts.
+/// What the words of a line ask for: the command, the number of `--most`, the seed, and the texts.
 fn told(alloc: Global, line: &str) -> Result<String, Fail> {
     let words = words_of(alloc, line)?;
     let asked = match read_words(alloc, &words) {
@@ -72,7 +73,7 @@ fn lines(rt: HostRuntime) -> Result<(), Fail> {
         ("unpack T --most -5", "Words"),
         ("unpack T --most=-5", "Words"),
         ("unpack T --most 5 ", "Words"),
-        // An empty word and `-` are words like others, and so is any word behind `--`.
+        // An empty word and `-` are words like others, and so is any word after `--`.
         ("unpack ", "Unpack Some(10000000) None "),
         ("unpack -", "Unpack Some(10000000) None -"),
         ("unpack -- --most", "Unpack Some(10000000) None --most"),
@@ -98,6 +99,125 @@ fn lines(rt: HostRuntime) -> Result<(), Fail> {
         assert_eq!(rt; told.as_str(), asked, "{line}");
     }
     Ok(())
+}
+
+/// What the words of a line ask for: the command, its numbers in the order of `Name`, the seed, and the texts.
+fn told_whole(alloc: Global, line: &str) -> Result<String, Fail> {
+    let words = words_of(alloc, line)?;
+    let asked = match read_words(alloc, &words) {
+        Ok(asked) => asked,
+        Err(fault) => return Ok(format!(in alloc; "{fault:?}")?),
+    };
+    let mut text = format!(in alloc; "{:?}", asked.command())?;
+    for name in [Name::Extra, Name::Pack, Name::Rate, Name::Idle, Name::Most] {
+        match asked.number(name) {
+            Some(number) => text.push_str(format!(in alloc; " {number}")?.as_str())?,
+            None => text.push_str(" -")?,
+        }
+    }
+    text.push_str(" ")?;
+    text.push_str(asked.seed().unwrap_or("-"))?;
+    for i in 0..asked.texts() {
+        text.push_str(" ")?;
+        text.push_str(asked.text(i))?;
+    }
+    Ok(text)
+}
+
+/// Each line asks for what stands beside it.
+fn told_as(rt: &impl Abort, alloc: Global, lines: &[(&str, &str)]) -> Result<(), Fail> {
+    for (line, asked) in lines {
+        let told = told_whole(alloc, line)?;
+        assert_eq!(rt; told.as_str(), *asked, "{line}");
+    }
+    Ok(())
+}
+
+#[test]
+fn send(rt: HostRuntime) -> Result<(), Fail> {
+    told_as(
+        &rt,
+        rt.alloc(),
+        &[
+            ("send T A --seed 00", "Send 0 32 - - - 00 T A"),
+            ("send --seed=00 T A", "Send 0 32 - - - 00 T A"),
+            (
+                "send T --pack 1 A --extra=5 --seed 00",
+                "Send 5 1 - - - 00 T A",
+            ),
+            ("send T A --seed 00 --extra +5", "Send 5 32 - - - 00 T A"),
+            ("send T A --seed 00 --extra -5", "Words"),
+            ("send T A --seed 00 --extra=-5", "Words"),
+            // A seed is any text that is no option of its own, and is given once.
+            ("send T A --seed ", "Send 0 32 - - -  T A"),
+            ("send T A --seed=-1", "Send 0 32 - - - -1 T A"),
+            ("send T A --seed -1", "Words"),
+            ("send T A --seed", "Words"),
+            ("send T A", "Words"),
+            ("send T A --seed 00 --seed 00", "Words"),
+            ("send T --seed 00", "Words"),
+            ("send T A B --seed 00", "Words"),
+            ("send T A --seed 00 --most 5", "Words"),
+            (
+                "send --seed 00 -- T --extra",
+                "Send 0 32 - - - 00 T --extra",
+            ),
+            ("send help A --seed 00", "Send 0 32 - - - 00 help A"),
+            ("send --help", "Words"),
+        ],
+    )
+}
+
+#[test]
+fn relay(rt: HostRuntime) -> Result<(), Fail> {
+    told_as(
+        &rt,
+        rt.alloc(),
+        &[
+            ("relay T A B --seed 00", "Relay - - 1 300 10000000 00 T A B"),
+            (
+                "relay --rate 0 T --idle=7 A --most 5 B --seed 00",
+                "Relay - - 0 7 5 00 T A B",
+            ),
+            // A relay listens at one address.
+            ("relay T A --seed 00", "Words"),
+            ("relay T A B C --seed 00", "Words"),
+            ("relay T A B", "Words"),
+            ("relay T A B --seed 00 --extra 1", "Words"),
+            (
+                "relay --seed 00 T -- A --rate",
+                "Relay - - 1 300 10000000 00 T A --rate",
+            ),
+        ],
+    )
+}
+
+#[test]
+fn recv(rt: HostRuntime) -> Result<(), Fail> {
+    told_as(
+        &rt,
+        rt.alloc(),
+        &[
+            ("recv T A", "Recv - - - 300 10000000 - T A"),
+            ("recv T A B C", "Recv - - - 300 10000000 - T A B C"),
+            // An option may part the addresses.
+            ("recv T A --idle 3 B", "Recv - - - 3 10000000 - T A B"),
+            ("recv --most=5 T A B --idle 3 C", "Recv - - - 3 5 - T A B C"),
+            (
+                "recv T A --idle 3 -- B --most",
+                "Recv - - - 3 10000000 - T A B --most",
+            ),
+            ("recv -- T A", "Recv - - - 300 10000000 - T A"),
+            ("recv T  A ", "Recv - - - 300 10000000 - T  A "),
+            ("recv T", "Words"),
+            ("recv T --idle 3", "Words"),
+            ("recv", "Words"),
+            ("recv T A --idle 3 --idle 3", "Words"),
+            ("recv T A --seed 00", "Words"),
+            ("recv T A -h", "Words"),
+            ("recv T help", "Recv - - - 300 10000000 - T help"),
+        ],
+    )
 }
 
 #[test]

@@ -44,8 +44,9 @@ pub record NamesTicket (words : List (List ℕ)) (t : TicketFields) (most : ℕ)
 abbrev pub IsRefusedFor : List (List ℕ) → Refusal → Type 0
 IsRefusedFor words Words = AsksNothingOf words Unpack
 IsRefusedFor words (Ticket fault) = (text : List ℕ) × (most : ℕ) × AsksToUnpack words text most × IsFirstFault text fault
-IsRefusedFor words (Range name) =
+IsRefusedFor words (Range Most) =
     (text : List ℕ) × (most : ℕ) × (t : TicketFields) × AsksToUnpack words text most × IsTicketText text t × ¬ IsMost most
+IsRefusedFor words (Range name) = ⊥
 IsRefusedFor words Input = ⊥
 IsRefusedFor words (Length got more) = ⊥
 IsRefusedFor words Memory = Unit {0}

@@ -1,0 +1,353 @@
+-- An argument that is required and was taken has a value: each row of the matches has one.
+use Rattle.std.proofs.Common.{◌≡◌, ◌∙◌, ◌&&◌, ◌||◌, ℕ, zero, suc, Bool, true, false, not, cond, refl, sym, ap, List, [], ◌∷◌, ◌++◌, length, Option, Some, None, true≢false, drop}
+use Rattle.std.specs.Prelude.{find, fold, nat_le, is_some, encode_utf8, slice_get, unwrap_or, map, option_map, option_and_then}
+use Rattle.std.specs.List.{list_all}
+use Rattle.std.specs.Option.{option_map_or}
+use Rattle.std.specs.Str.{bytes_eq, chars}
+use Rattle.std.proofs.lemmas.List.Folds.{list_all-append}
+use Rattle.clap.specs.Lexer.{long_of, short_of}
+use Rattle.clap.specs.Facts.{explicit_source, unwrap_or_range}
+use Rattle.clap.specs.Walk.{Held, Names, Outcome, Row, Rule, Step, Text, Waiting, Walk, action_of, after_flag, after_step, all_of, arg_by_id, arg_by_index, arg_by_long, arg_by_short, at_row, attached_value, bundle_met, bundle_step, default_rows, finished, first_of, flag_met, has_row, is_pending, long_met, long_or_other, more_values, nothing_held, option_met, option_word, plain_word, reacted, reading_by, rows_after, settled, settled_rows, short_met, short_or_plain, subcommand_met, subcommand_or_other, takes_several, takes_values, to_positional, used, used_as, used_by_id, walk, walk_from, walked, walked_from, with_default, with_values, without, word_met}
+use Rattle.clap.specs.Walk.{done, waits, plain, refused, idle, option, positional, next, trailing, subcommand, value}
+use Rattle.clap.specs.Simple.{App, Shape, argument_words, built, entered, filled_from, is_simple, matches_of}
+use Rattle.clap.specs.Takes.{bundle_passes, bundle_step_passes, built_takes, default_passes, entered_passes, flag_word_passes, flags_pass, is_given, is_valid, level_passes, long_passes, option_passes, other_passes, positional_passes, react_passes, settle_passes, short_passes, step_passes, takes, turn_passes, use_passes, walk_passes, word_passes}
+use Rattle.clap.specs.declared.builder.action.ArgAction.{ArgAction}
+use Rattle.clap.specs.declared.builder.action.ArgAction.TheVariants as action
+use Rattle.clap.specs.declared.builder.value_parser.Reading.{Reading}
+use Rattle.clap.specs.declared.parser.matches.ValueSource.{ValueSource}
+use Rattle.clap.specs.declared.parser.matches.ValueSource.TheVariants.{CommandLine, DefaultValue}
+use Rattle.clap.proofs.WalkLemmas.{both}
+use Rattle.kk_words.specs.declared.command.Command.{Command}
+use Rattle.kk_words.specs.declared.command.Command.TheVariants.{Plan, Pack, Unpack, Send, Relay, Recv}
+use Rattle.kk_words.specs.Arguments.{rule_of_argument}
+use Rattle.kk_words.specs.Commands.{app_for, form_of}
+
+abbrev pub has_some : List Text → Bool
+has_some [] = false
+has_some (x ∷ xs) = true
+
+abbrev is_filled : Row → Bool
+is_filled r = has_some r.values
+
+-- each row has a value
+abbrev pub filled : List Row → Bool
+filled rows = list_all is_filled rows
+
+-- a use of the argument has a value
+abbrev wants_value : Rule → Bool
+wants_value a = not (nat_le (unwrap_or_range a.range).start_inclusive 0)
+
+and : (a b : Bool) → a ≡ true → b ≡ true → (a && b) ≡ true
+and true b p q = q
+and false b p q = absurd (true≢false (sym p))
+
+-- ---- rows
+
+at_row_filled : (id : Text) (change : Row → List Row) (missing rows : List Row)
+    → ((r : Row) → is_filled r ≡ true → filled (change r) ≡ true) → filled missing ≡ true → filled rows ≡ true
+    → filled (at_row id change missing rows) ≡ true
+at_row_filled id change missing [] changes new old = new
+at_row_filled id change missing (r ∷ rs) changes new old =
+    go (bytes_eq r.id id) (at_row_filled id change missing rs changes new (both (is_filled r) (filled rs) old).1)
+  where
+    go : (b : Bool) → filled (at_row id change missing rs) ≡ true → filled (cond b (change r ++ rs) (r ∷ at_row id change missing rs)) ≡ true
+    go true below = list_all-append is_filled (change r) rs
+        ∙ and _ _ (changes r (both (is_filled r) (filled rs) old).0) (both (is_filled r) (filled rs) old).1
+    go false below = and _ _ (both (is_filled r) (filled rs) old).0 below
+
+without_filled : (id : Text) (rows : List Row) → filled rows ≡ true → filled (without id rows) ≡ true
+without_filled id rows e = at_row_filled id (λ _. []) [] rows (λ r here. refl) refl e
+
+more_filled : (xs ys : List Text) → has_some xs ≡ true → has_some (xs ++ ys) ≡ true
+more_filled [] ys e = absurd (true≢false (sym e))
+more_filled (x ∷ xs) ys e = refl
+
+with_values_filled : (id : Text) (how : Reading) (s : ValueSource) (v : Text) (vs : List Text) (rows : List Row) → filled rows ≡ true
+    → filled (with_values id how s (v ∷ vs) rows) ≡ true
+with_values_filled id how s v vs rows e =
+    at_row_filled id (more_values s (v ∷ vs)) _ rows (λ r here. and _ _ (more_filled r.values (v ∷ vs) here) refl) refl e
+
+used_filled : (again : Bool) (a : Rule) (vs : List Text) (rows : List Row) → wants_value a ≡ true → use_passes again a vs rows ≡ true
+    → filled rows ≡ true → filled (used a vs rows) ≡ true
+used_filled again a [] rows wants e old = absurd (true≢false (sym wants ∙ ap not (both (nat_le (unwrap_or_range a.range).start_inclusive 0) _ e).0))
+used_filled again a (v ∷ vs) rows wants e old = go (action_of a)
+  where
+    replaced : filled (with_values a.id (reading_by a) CommandLine (v ∷ vs) (without a.id rows)) ≡ true
+    replaced = with_values_filled a.id (reading_by a) CommandLine v vs (without a.id rows) (without_filled a.id rows old)
+
+    go : (x : ArgAction) → filled (used_as x a.id (reading_by a) (v ∷ vs) rows) ≡ true
+    go action.Set = replaced
+    go action.SetTrue = replaced
+    go action.SetFalse = replaced
+    go action.Append = with_values_filled a.id (reading_by a) CommandLine v vs rows old
+    go action.Count = replaced
+    go action.Help = old
+    go action.HelpShort = old
+    go action.HelpLong = old
+    go action.Version = old
+
+-- the first argument with a property, where each wants a value
+first_wants : (p : Rule → Bool) (c : List Rule) → list_all wants_value c ≡ true → option_map_or wants_value (find p c) true ≡ true
+first_wants p [] e = refl
+first_wants p (a ∷ c) e = go (p a) (first_wants p c (both (wants_value a) _ e).1)
+  where
+    go : (b : Bool) → option_map_or wants_value (find p c) true ≡ true → option_map_or wants_value (cond b (Some a) (find p c)) true ≡ true
+    go true below = (both (wants_value a) _ e).0
+    go false below = below
+
+-- ---- one word
+
+module _ (c : List Rule) (again : Bool) (wants : list_all wants_value c ≡ true) where
+  settled_filled : (h : Held) → settle_passes c again h ≡ true → filled h.rows ≡ true → filled (settled c h).rows ≡ true
+  settled_filled h e old = go h.pending e
+    where
+      found : (o : Option Rule) (vs : List Text) → option_map_or wants_value o true ≡ true
+          → option_map_or (λ a. use_passes again a vs h.rows) o true ≡ true → filled (used_by_id o vs h.rows) ≡ true
+      found None vs wants e = old
+      found (Some a) vs wants e = used_filled again a vs h.rows wants e old
+
+      go : (p : Option (Text × List Text)) → option_map_or (λ p. option_map_or (λ a. use_passes again a p.1 h.rows) (arg_by_id c p.0) true) p true ≡ true
+          → filled (settled_rows c p h.rows) ≡ true
+      go None e = old
+      go (Some p) e = found (arg_by_id c p.0) p.1 (first_wants _ c wants) e
+
+  reacted_filled : (a : Rule) (vs : List Text) (h : Held) → wants_value a ≡ true → react_passes c again a vs h ≡ true → filled h.rows ≡ true
+      → filled (reacted c a vs h).rows ≡ true
+  reacted_filled a vs h one e old =
+      let p = both (settle_passes c again h) _ e in
+      used_filled again a vs (settled c h).rows one p.1 (settled_filled h p.0 old)
+
+  option_filled : (a : Rule) (v : Option Text) (h : Held) → wants_value a ≡ true → option_passes c again a v h ≡ true → filled h.rows ≡ true
+      → filled (option_met c a v h).0.rows ≡ true
+  option_filled a (Some v) h one e old = reacted_filled a (v ∷ []) h one e old
+  option_filled a None h one e old = settled_filled h e old
+
+  long_filled : (o : Option Rule) (v : Option Text) (h : Held) → option_map_or wants_value o true ≡ true → long_passes c again o v h ≡ true
+      → filled h.rows ≡ true → filled (long_met c o v h).0.rows ≡ true
+  long_filled None v h one e old = old
+  long_filled (Some a) v h one e old = go (takes_values a) v e
+    where
+      go : (b : Bool) (v : Option Text) → cond b (option_passes c again a v h) (not (is_some v) && react_passes c again a [] h) ≡ true
+          → filled (cond b (option_met c a v h) (flag_met c a v h)).0.rows ≡ true
+      go true v e = option_filled a v h one e old
+      go false (Some v) e = old
+      go false None e = reacted_filled a [] h one e old
+
+  short_filled : (o : Option Rule) (rest : Text) (h : Held) (meets : Held → Held × Outcome) (pass : Held → Bool)
+      → ((g : Held) → pass g ≡ true → filled g.rows ≡ true → filled (meets g).0.rows ≡ true)
+      → option_map_or wants_value o true ≡ true → short_passes c again o rest h pass ≡ true → filled h.rows ≡ true
+      → filled (short_met c o rest h meets).0.rows ≡ true
+  short_filled None rest h meets pass below one e old = old
+  short_filled (Some a) rest h meets pass below one e old = go (takes_values a) e
+    where
+      go : (b : Bool) → cond b (option_passes c again a (attached_value rest) h) (react_passes c again a [] h && pass (reacted c a [] h)) ≡ true
+          → filled (cond b (option_met c a (attached_value rest) h) (meets (reacted c a [] h))).0.rows ≡ true
+      go true e = option_filled a (attached_value rest) h one e old
+      go false e =
+          let p = both (react_passes c again a [] h) _ e in
+          below (reacted c a [] h) p.1 (reacted_filled a [] h one p.0 old)
+
+  step_filled : (o : Option ℕ) (flags : Text) (skip : ℕ) (so_far : Outcome) (h : Held)
+      (meets : Text → ℕ → Outcome → Held → Held × Outcome) (pass : Text → ℕ → Held → Bool)
+      → ((t : Text) (n : ℕ) (x : Outcome) (g : Held) → pass t n g ≡ true → filled g.rows ≡ true → filled (meets t n x g).0.rows ≡ true)
+      → bundle_step_passes c again o flags skip h pass ≡ true → filled h.rows ≡ true
+      → filled (bundle_step c o flags skip so_far h meets).0.rows ≡ true
+  step_filled None flags skip so_far h meets pass below e old = old
+  step_filled (Some x) flags zero so_far h meets pass below e old =
+      let rest = drop (length (encode_utf8 x)) flags in
+      short_filled (arg_by_short c x) rest h (meets rest 0 done) (pass rest 0) (below rest 0 done) (first_wants _ c wants) e old
+  step_filled (Some x) flags (suc skip) so_far h meets pass below e old = below (drop (length (encode_utf8 x)) flags) skip so_far h e old
+
+  bundle_filled : (k : ℕ) (flags : Text) (skip : ℕ) (so_far : Outcome) (h : Held) → flags_pass c again k flags skip h ≡ true → filled h.rows ≡ true
+      → filled (bundle_met c k flags skip so_far h).0.rows ≡ true
+  unfolding bundle_met flags_pass
+  bundle_filled zero flags skip so_far h e old = old
+  bundle_filled (suc k) flags skip so_far h e old =
+      step_filled (slice_get (chars flags) 0) flags skip so_far h (bundle_met c k) (flags_pass c again k) (λ t n x g. bundle_filled k t n x g) e old
+
+  plain_filled : (waiting : Waiting) (word : Text) (h : Held) → filled h.rows ≡ true → filled (plain_word c waiting word h).0.rows ≡ true
+  plain_filled idle word h old = old
+  plain_filled positional word h old = old
+  plain_filled (option id) word h old = go (arg_by_id c id)
+    where
+      go : (o : Option Rule) → filled (option_word o id word h).0.rows ≡ true
+      go None = old
+      go (Some a) = old
+
+  after_filled : (waiting : Waiting) (word : Text) (h : Held) (x : Outcome) → filled h.rows ≡ true → filled (after_flag c waiting word h x).0.rows ≡ true
+  after_filled waiting word h done old = old
+  after_filled waiting word h (waits id) old = old
+  after_filled waiting word h plain old = plain_filled waiting word h old
+  after_filled waiting word h refused old = plain_filled waiting word h old
+
+  flag_word_filled : (o : Option (Text × Option Text)) (waiting : Waiting) (word : Text) (h : Held) → flag_word_passes c again o word h ≡ true
+      → filled h.rows ≡ true → filled (long_or_other c waiting word o h).0.rows ≡ true
+  flag_word_filled (Some p) waiting word h e old =
+      let met = long_met c (arg_by_long c p.0) p.1 h in
+      after_filled waiting word met.0 met.1 (long_filled (arg_by_long c p.0) p.1 h (first_wants _ c wants) e old)
+  flag_word_filled None waiting word h e old = go (short_of word) e
+    where
+      go : (o : Option Text) → option_map_or (λ flags. bundle_passes c again flags h) o true ≡ true → filled (short_or_plain c waiting word o h).0.rows ≡ true
+      go None e = plain_filled waiting word h old
+      go (Some flags) e =
+          let met = bundle_met c (length flags) flags h.skip plain (record h { skip = 0 }) in
+          after_filled waiting word met.0 met.1 (bundle_filled (length flags) flags h.skip plain (record h { skip = 0 }) e old)
+
+  positional_filled : (a : Rule) (h : Held) → positional_passes c again a h ≡ true → filled h.rows ≡ true
+      → filled (cond (is_pending a h.pending && takes_several a) h (settled c h)).rows ≡ true
+  positional_filled a h e old = go (is_pending a h.pending && takes_several a) e
+    where
+      go : (b : Bool) → (b || settle_passes c again h) ≡ true → filled (cond b h (settled c h)).rows ≡ true
+      go true e = old
+      go false e = settled_filled h e old
+
+-- ---- the walk over the words
+
+module _ (s : Shape) (wants : list_all wants_value s.rules ≡ true) where
+  met_filled : (names : Names) (is_trailing : Bool) (waiting : Waiting) (position : ℕ) (word : Text) (h : Held) → word_passes s names is_trailing waiting word h ≡ true
+      → filled h.rows ≡ true → filled (word_met s.rules names is_trailing waiting position word h).0.rows ≡ true
+  met_filled names true waiting position word h e old = old
+  met_filled names false waiting position word h e old = go (subcommand_met names waiting word) e
+    where
+      other : (b : Bool) → (b || flag_word_passes s.rules s.args_override_self (long_of word) word h) ≡ true
+          → filled (cond b (h, trailing position) (long_or_other s.rules waiting word (long_of word) h)).0.rows ≡ true
+      other true e = old
+      other false e = flag_word_filled s.rules s.args_override_self wants (long_of word) waiting word h e old
+
+      go : (o : Option Text) → other_passes s o word h ≡ true → filled (subcommand_or_other s.rules o waiting position word h).0.rows ≡ true
+      go (Some name) e = old
+      go None e = other (bytes_eq word (45 ∷ 45 ∷ [])) e
+
+  after_step_filled : (word : Text) (w : Walk) (h : Held) (step : Step) → step_passes s w.position h step ≡ true → filled h.rows ≡ true
+      → filled (after_step s.rules word w h step).held.rows ≡ true
+  after_step_filled word w h (next waiting) e old = old
+  after_step_filled word w h (trailing position) e old = old
+  after_step_filled word w h (subcommand name) e old = old
+  after_step_filled word w h value e old = go (arg_by_index s.rules w.position) e
+    where
+      go : (o : Option Rule) → option_map_or (λ a. positional_passes s.rules s.args_override_self a h) o false ≡ true
+          → filled (to_positional s.rules o word w h).held.rows ≡ true
+      go None e = old
+      go (Some a) e = positional_filled s.rules s.args_override_self wants a h e old
+
+  turn_filled : (names : Names) (w : Walk) (word : Text) → turn_passes s names w word ≡ true → filled w.held.rows ≡ true
+      → filled (walked s.rules names w word).held.rows ≡ true
+  unfolding walked
+  turn_filled names w word e old = go w.stopped e
+    where
+      met : Held × Step
+      met = word_met s.rules names w.is_trailing w.waiting w.position word w.held
+
+      go : (o : Option (Text × List Text)) → (is_some o || (word_passes s names w.is_trailing w.waiting word w.held && step_passes s w.position met.0 met.1)) ≡ true
+          → filled (walked_from s.rules names o w word).held.rows ≡ true
+      go (Some p) e = old
+      go None e =
+          let p = both (word_passes s names w.is_trailing w.waiting word w.held) _ e in
+          after_step_filled word w met.0 met.1 p.1 (met_filled names w.is_trailing w.waiting w.position word w.held p.0 old)
+
+  walk_filled : (names : Names) (w : Walk) (words : List Text) → walk_passes s names w words ≡ true → filled w.held.rows ≡ true
+      → filled (fold (walked s.rules names) w words).held.rows ≡ true
+  unfolding walk_passes
+  walk_filled names w [] e old = old
+  walk_filled names w (word ∷ words) e old =
+      let p = both (turn_passes s names w word) _ e in
+      walk_filled names (walked s.rules names w word) words p.1 (turn_filled names w word p.0 old)
+
+-- ---- after the walk
+
+default_filled : (a : Rule) (rows : List Row) → filled rows ≡ true → filled (with_default rows a) ≡ true
+default_filled a rows old = go (has_row a.id rows)
+  where
+    given : (vs : List Text) → filled (default_rows a.id (reading_by a) vs rows) ≡ true
+    given [] = old
+    given (v ∷ vs) = with_values_filled a.id (reading_by a) DefaultValue v vs rows old
+
+    go : (b : Bool) → filled (cond b rows (default_rows a.id (reading_by a) a.defaults rows)) ≡ true
+    go true = old
+    go false = given a.defaults
+
+defaults_filled : (c : List Rule) (rows : List Row) → filled rows ≡ true → filled (fold with_default rows c) ≡ true
+defaults_filled [] rows old = old
+defaults_filled (a ∷ c) rows old = defaults_filled c (with_default rows a) (default_filled a rows old)
+
+-- what one level of a parse that passes leaves: each row has a value, and what is required has a row
+level_filled : (s : Shape) (words : List Text) → list_all wants_value s.rules ≡ true → level_passes s [] nothing_held words false ≡ true
+    → filled (rows_after s.rules [] words) ≡ true
+level_filled s words wants e =
+    let end = (walk s.rules [] nothing_held words).held in
+    let p = both (walk_passes s [] (walk_from nothing_held) words) _ e in
+    let q = both (settle_passes s.rules s.args_override_self end) _ p.1 in
+    defaults_filled s.rules (settled s.rules end).rows (settled_filled s.rules s.args_override_self wants end q.0 (walk_filled s wants [] (walk_from nothing_held) words p.0 refl))
+
+-- a row that is found has a value
+row_filled : (p : Row → Bool) (rows : List Row) → filled rows ≡ true → option_map_or is_filled (find p rows) true ≡ true
+row_filled p [] e = refl
+row_filled p (r ∷ rows) e = go (p r) (row_filled p rows (both (is_filled r) _ e).1)
+  where
+    go : (b : Bool) → option_map_or is_filled (find p rows) true ≡ true → option_map_or is_filled (cond b (Some r) (find p rows)) true ≡ true
+    go true below = (both (is_filled r) _ e).0
+    go false below = below
+
+-- what is given has a value
+pub given_values : (id : Text) (rows : List Row) → filled rows ≡ true → is_given id rows ≡ true → has_some (unwrap_or (all_of id rows) []) ≡ true
+given_values id rows e is = go (find (λ r. bytes_eq r.id id) rows) (row_filled _ rows e) is
+  where
+    go : (o : Option Row) → option_map_or is_filled o true ≡ true → option_map_or (λ r. explicit_source r.source) o false ≡ true
+        → has_some (unwrap_or (option_map (λ r. r.values) o) []) ≡ true
+    go None e is = absurd (true≢false (sym is))
+    go (Some r) e is = e
+
+pub given_first : (id : Text) (rows : List Row) → filled rows ≡ true → is_given id rows ≡ true → is_some (first_of id rows) ≡ true
+given_first id rows e is = go (find (λ r. bytes_eq r.id id) rows) (row_filled _ rows e) is
+  where
+    first : (vs : List Text) → has_some vs ≡ true → is_some (slice_get vs 0) ≡ true
+    first [] e = absurd (true≢false (sym e))
+    first (v ∷ vs) e = refl
+
+    go : (o : Option Row) → option_map_or is_filled o true ≡ true → option_map_or (λ r. explicit_source r.source) o false ≡ true
+        → is_some (option_and_then (λ r. slice_get r.values 0) o) ≡ true
+    go None e is = absurd (true≢false (sym is))
+    go (Some r) e is = first r.values e
+
+-- ---- the commands
+
+-- a command with no subcommand takes no more than its own level
+leaf_level : (a : App) (h : Held) (words : List Text) → a.subs ≡ [] → built_takes a h words ≡ true → level_passes a.top [] h words false ≡ true
+leaf_level a h words none e = go (walk a.top.rules [] h words).stopped (sym (ap (λ subs. built_takes (record a { subs = subs }) h words) none) ∙ e)
+  where
+    go : (stop : Option (Text × List Text))
+        → (entered_passes (record a { subs = [] }) stop && level_passes a.top [] h words (is_some (entered (record a { subs = [] }) stop))) ≡ true
+        → level_passes a.top [] h words false ≡ true
+    go None e = e
+    go (Some p) e = e
+
+rules_want : (command : Command) → list_all wants_value (filled_from 1 (map rule_of_argument (form_of command))) ≡ true
+rules_want Plan = refl
+rules_want Pack = refl
+rules_want Unpack = refl
+rules_want Send = refl
+rules_want Relay = refl
+rules_want Recv = refl
+
+level_of : (command : Command) (words : List Text) → takes (app_for command) words ≡ true
+    → level_passes (built (app_for command)).top [] nothing_held (argument_words (app_for command) words) false ≡ true
+level_of command words e =
+    let a = app_for command in
+    leaf_level (built a) nothing_held (argument_words a words) refl (both (is_simple a) _ e).1
+
+pub taken_filled : (command : Command) (words : List Text) → takes (app_for command) words ≡ true → filled (matches_of (app_for command) words) ≡ true
+taken_filled command words e =
+    let a = app_for command in
+    level_filled (built a).top (argument_words a words) (rules_want command) (level_of command words e)
+
+-- each argument that is required was given
+pub taken_required : (command : Command) (words : List Text) → takes (app_for command) words ≡ true
+    → list_all (λ a. not a.required || is_given a.id (matches_of (app_for command) words)) (filled_from 1 (map rule_of_argument (form_of command))) ≡ true
+taken_required command words e =
+    let s = (built (app_for command)).top in
+    let given = argument_words (app_for command) words in
+    let end = (walk s.rules [] nothing_held given).held in
+    let p = both (walk_passes s [] (walk_from nothing_held) given) _ (level_of command words e) in
+    let q = both (settle_passes s.rules s.args_override_self end) _ p.1 in
+    let r = both (list_all default_passes s.rules) _ q.1 in
+    (both (list_all (λ a. a.is_free) s.rules) _ r.1).1
