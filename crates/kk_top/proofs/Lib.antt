@@ -1,6 +1,7 @@
 pub mod Blocks
 pub mod Spanned
 pub mod Receiving
+pub mod Addressing
 pub mod Asking
 pub mod Counted
 pub mod Texts

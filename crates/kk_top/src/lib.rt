@@ -1,6 +1,7 @@
 //! The calls of the commands: each does all that its command does, over the objects that it is handed.
 #![tactic(auto)]
 
+mod addresses;
 mod block;
 mod commands;
 mod delivery;
@@ -17,6 +18,8 @@ mod totals;
 mod unpacking;
 mod words;
 
+pub use addresses::{Addresses, places};
 pub use commands::{run_pack, run_plan, run_unpack};
 pub use kk_outside::Alloc;
+pub use kk_words::WordsFault;
 pub use program::run;

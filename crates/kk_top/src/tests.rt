@@ -312,7 +312,7 @@ fn refusals(rt: HostRuntime) -> Result<(), Fail> {
         (&["unpack", ONE_BYTE, "--most"], 1, "words\nstatus 1\n"),
         (&["unpack", ONE_BYTE, "--most=-1"], 1, "words\nstatus 1\n"),
         (&["--most", "5", "unpack", ONE_BYTE], 1, "words\nstatus 1\n"),
-        (&["pack", ONE_BYTE], 1, "words\nstatus 1\n"),
+        (&["send", ONE_BYTE], 1, "words\nstatus 1\n"),
         (&["unpack", ""], 2, "ticket shape 0\nstatus 2\n"),
         (
             &["unpack", "kk1:00000001:8:000000000000001B:4:2:1"],
