@@ -2,15 +2,21 @@
 #![tactic(auto)]
 
 mod ahead;
+mod sockets;
 
 use ahead::Ahead;
-use kk_outside::{StdSink, StdSource, UdpGate, UdpOutlet};
+use kk_outside::{StdSink, StdSource};
+use sockets::{Sockets, Unopened};
 use std::alloc::{AllocError, Global};
 use std::env;
+use std::io::Write;
 use std::process::ExitCode;
 
-/// The status for want of memory, met before there is a word to run.
+/// The status for want of memory, met before there is a command to run.
 const NO_MEMORY: u8 = 8;
+
+/// The status where a socket can't be opened.
+const CANNOT_OPEN: u8 = 12;
 
 /// The words of the command line after the program's name. Where they aren't text there are none, which is a faulty
 /// command line.
@@ -21,17 +27,34 @@ fn words(rt: &HostRuntime, alloc: Global) -> Result<Vec<String>, AllocError> {
     }
 }
 
-/// Runs the command that the words name over the standard streams, and ends with its status.
+/// Tells that there is no socket for an address, and ends the program. A failed write changes no status.
+fn refuse(rt: &HostRuntime, unopened: &Unopened) -> ExitCode {
+    match unopened {
+        Unopened::Alloc => ExitCode::from(NO_MEMORY),
+        Unopened::Cannot(address) => {
+            let _ = writeln!(rt.stderr(), "cannot open {address}");
+            ExitCode::from(CANNOT_OPEN)
+        }
+    }
+}
+
+/// Runs the command that the words name over the standard streams and the sockets of its addresses, and ends with its
+/// status.
 fn main(rt: HostRuntime) -> ExitCode {
     let alloc = rt.alloc();
     let Ok(words) = words(&rt, alloc) else {
         return ExitCode::from(NO_MEMORY);
     };
+    let Sockets {
+        mut gates,
+        mut outlet,
+    } = match Sockets::open(&rt, alloc, &words) {
+        Ok(sockets) => sockets,
+        Err(unopened) => return refuse(&rt, &unopened),
+    };
     let mut source = StdSource::new(Ahead::new(rt.stdin().lock()));
     let mut file = StdSink::new(rt.stdout());
     let mut report = StdSink::new(rt.stderr());
-    let mut gates: Vec<UdpGate> = Vec::new(alloc);
-    let mut outlet = UdpOutlet::none();
     let status = kk_top::run(
         &rt,
         alloc,
