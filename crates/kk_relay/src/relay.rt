@@ -6,6 +6,7 @@ ghost use Rattle.kk_outside.specs.Causes.{HasCause};
 ghost use Rattle.kk_outside.specs.Change.{change};
 ghost use Rattle.kk_outside.specs.Gate.{events_told};
 ghost use Rattle.kk_outside.specs.Outlet.{OutletTold, append_datagrams};
+ghost use Rattle.kk_code.specs.Ticket.{generations};
 ghost use Rattle.kk_frame.specs.declared.datagram.TheConstants.{MAX_DATAGRAM_FRAMES};
 ghost use Rattle.kk_frame.specs.declared.frame.TheConstants.{FRAME_BYTES};
 ghost use Rattle.kk_frame.specs.Events.{taken, counts};
@@ -51,7 +52,8 @@ impl Model for Relay {
 impl Relay {
     /// A relay under this ticket that holds no row. It takes all the memory that it needs.
     pub fn new(alloc: Global, ticket: &Ticket) -> Result<Relay, Alloc>
-        ensures { IfOk result (λ relay. relay ≡ relay_after ticket.now []) }
+        ensures empty { IfOk result (λ relay. relay ≡ relay_after ticket.now []) }
+        ensures count { IfOk result (λ relay. length relay ≡ generations ticket.now) }
     {
         let count = ticket.generations() as usize;
         let width = ticket.code().width();
@@ -118,6 +120,7 @@ impl Relay {
             → self.new ≡ relay_after ticket.now (taken FRAME_BYTES ticket.now limits.now (events_told (change (G.told gate.old) (G.told gate.new)))) }
         ensures drawn { (result ≡ Err RelayFault.Outlet → ⊥) → R.stream rng.new ≡ after_words (length (relayed rate (word_at (R.stream rng.old))
             (taken FRAME_BYTES ticket.now limits.now (events_told (change (G.told gate.old) (G.told gate.new)))))) (R.stream rng.old) }
+        ensures generations { length self.new ≡ length self.old }
         ensures broken_off { result ≡ Err RelayFault.Outlet
             → EndsShort ticket.now rate (R.stream rng.old) (taken FRAME_BYTES ticket.now limits.now (events_told (change (G.told gate.old) (G.told gate.new))))
             (change (O.told outlet.old) (O.told outlet.new)) self.new (R.stream rng.new) }

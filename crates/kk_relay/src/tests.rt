@@ -17,7 +17,8 @@ use rand_core::utils::NextWord;
 use rand_core::{Rng, utils};
 use std::alloc::{AllocError, Global};
 use std::marker::Model;
-use std::test::Fail;
+use std::process::Abort;
+use std::test::*;
 
 /// Relays what a gate gives, with one combination for each data frame, and answers how many these were, where nothing failed.
 fn relay_gate<G: Gate, O: Outlet, R: Rng>(
@@ -63,7 +64,7 @@ impl Rng for Words {
     ghost stream = { stream_of (steps_u64_low (λ n. (n, min 3 (n + 2)))) };
 
     fn next_u32(&mut self) -> u32 {
-        self.next_word() as u32
+        (self.next_word() % (1 << 32)) as u32
     }
 
     fn next_u64(&mut self) -> u64 {
@@ -78,8 +79,12 @@ impl Rng for Words {
 const LIMITS: Limits = Limits { idle: 2, most: 10 };
 
 /// The ticket of a file of one byte: three generations of three rows, each of six bits.
-fn one_byte() -> Result<Ticket, Fail> {
-    Ok(Ticket::read("kk1:00000001:3:0000000000000003:3:1:1")?)
+fn one_byte(rt: &impl Abort) -> Result<Ticket, Fail>
+    ensures { IfOk result (λ t. generations t ≡ 3) }
+{
+    let ticket = Ticket::read("kk1:00000001:3:0000000000000003:3:1:1")?;
+    assert_eq!(rt; ticket.generations(), 3);
+    Ok(ticket)
 }
 
 /// A frame of session 1 with this kind, generation and row.
@@ -110,7 +115,7 @@ fn two_rows(alloc: Global, last: Event) -> Result<MemoryGate, Fail>
 #[test]
 fn two_rows_and_the_end(rt: HostRuntime) -> Result<(), Fail> {
     let alloc = rt.alloc();
-    let ticket = one_byte()?;
+    let ticket = one_byte(&rt)?;
     let mut gate = two_rows(alloc, datagram(alloc, 1, 0)?)?;
     let mut outlet = MemoryOutlet::new(alloc, 100, Vec::new(alloc))?;
     let mut relay = Relay::new(alloc, &ticket)?;
@@ -131,7 +136,7 @@ fn two_rows_and_the_end(rt: HostRuntime) -> Result<(), Fail> {
 #[test]
 fn no_end_after_a_fault(rt: HostRuntime) -> Result<(), Fail> {
     let alloc = rt.alloc();
-    let ticket = one_byte()?;
+    let ticket = one_byte(&rt)?;
     let mut gate = two_rows(alloc, Event::Fault)?;
     let mut outlet = MemoryOutlet::new(alloc, 100, Vec::new(alloc))?;
     let mut relay = Relay::new(alloc, &ticket)?;
@@ -145,7 +150,7 @@ fn no_end_after_a_fault(rt: HostRuntime) -> Result<(), Fail> {
 #[test]
 fn nothing_is_sent_after_a_send_that_failed(rt: HostRuntime) -> Result<(), Fail> {
     let alloc = rt.alloc();
-    let ticket = one_byte()?;
+    let ticket = one_byte(&rt)?;
     let mut gate = two_rows(alloc, datagram(alloc, 1, 0)?)?;
     let mut outlet = MemoryOutlet::new(alloc, 100, [1u64].to_vec(alloc)?)?;
     let mut relay = Relay::new(alloc, &ticket)?;
@@ -159,7 +164,7 @@ fn nothing_is_sent_after_a_send_that_failed(rt: HostRuntime) -> Result<(), Fail>
 #[test]
 fn a_rate_of_0_sends_the_end_alone(rt: HostRuntime) -> Result<(), Fail> {
     let alloc = rt.alloc();
-    let ticket = one_byte()?;
+    let ticket = one_byte(&rt)?;
     let mut gate = two_rows(alloc, Event::Quiet)?;
     let mut outlet = MemoryOutlet::new(alloc, 100, Vec::new(alloc))?;
     let mut rng = Words(1);
@@ -176,7 +181,7 @@ fn a_rate_of_0_sends_the_end_alone(rt: HostRuntime) -> Result<(), Fail> {
 #[test]
 fn a_combination_that_is_the_row_0_is_sent(rt: HostRuntime) -> Result<(), Fail> {
     let alloc = rt.alloc();
-    let ticket = one_byte()?;
+    let ticket = one_byte(&rt)?;
     let mut gate = two_rows(alloc, datagram(alloc, 1, 0)?)?;
     let mut outlet = MemoryOutlet::new(alloc, 100, Vec::new(alloc))?;
     let mut rng = Words(0);
@@ -184,6 +189,7 @@ fn a_combination_that_is_the_row_0_is_sent(rt: HostRuntime) -> Result<(), Fail> 
         relay_gate(alloc, &ticket, &mut gate, &mut outlet, &mut rng),
         Some(2)
     );
+    assert_eq!(rt; outlet.sent(), 3);
     assert_eq!(rt; outlet.datagram(0), frame(0, 0, 0).as_slice());
     assert_eq!(rt; outlet.datagram(1), frame(0, 0, 17).as_slice());
     Ok(())

@@ -11,3 +11,4 @@ pub mod Plans
 pub mod Capturing
 pub mod TicketWords
 pub mod Packs
+pub mod Packed

@@ -2,6 +2,7 @@ pub mod Answers
 pub mod Block
 pub mod Command
 pub mod Delivery
+pub mod Laws
 pub mod Places
 pub mod Refusal
 pub mod Report

@@ -5,6 +5,7 @@ mod addresses;
 mod block;
 mod commands;
 mod delivery;
+pub mod laws;
 mod lines;
 mod packing;
 mod program;

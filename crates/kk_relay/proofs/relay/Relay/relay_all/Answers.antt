@@ -1,4 +1,5 @@
-use Rattle.std.proofs.Common.{◌≢◌, ◌++◌, Some, ap, sym, ◌∙◌, arith}
+use Rattle.std.proofs.Common.{◌≢◌, ◌++◌, [], length, take, Some, ap, sym, ◌∙◌, arith}
+use Rattle.kk_relay.proofs.Relays.{length-relay_after}
 use Rattle.kk_outside.specs.Change.{change}
 use Rattle.kk_frame.specs.declared.gate_count.Ended.TheVariants as ended
 use Rattle.kk_frame.specs.declared.gate_count.GateCount.{GateCount}
@@ -92,3 +93,10 @@ returns-in_default-send_frame-clause-cut_short_of_all g c = λ is.
     without_end_of_all c.args.ticket.now c.args.limits.now c.args.rate (g.R.Rng.stream c.args.rng.now) (change (g.G.Gate.told c.args.gate.now) (g.G.Gate.told loop.gate)) (change (outlet c.args.outlet.now) (outlet loop.outlet)) loop.intake loop.self (g.R.Rng.stream loop.rng) loop.sent (outlet c.send_frame.new.outlet) loop.invariant (sym c.runs.ensures.running ∙ c.loop-buf-test.false)
     (ap is_failure (ap (λ (n : GateCount). n.ended) (sym c.counts-counts.ensures.counts)) ∙ sym c.has_failed.ensures ∙ c.if-has_failed.false)
     c.in_default-send_frame.ensures.sends.kept
+
+pub returns-in_default-clause-generations : goal.returns-in_default-clause-generations
+returns-in_default-clause-generations g c =
+    let t = c.args.ticket.now in
+    let run = c.loop-buf.invariant in
+    let off = c.in_default.ensures.breaks_off (g.R.Rng.stream c.args.rng.now) run.frames (g.O.Outlet.told c.args.outlet.now) run.progress in
+    ap length off.holds ∙ length-relay_after t (take off.count (run.frames ++ frames_of c.next_frames-frames.result)) ∙ sym (ap length c.requires.empty ∙ length-relay_after t [])
