@@ -12,3 +12,4 @@ pub mod Capturing
 pub mod TicketWords
 pub mod Packs
 pub mod Packed
+pub mod Sends

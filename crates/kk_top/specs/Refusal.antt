@@ -6,9 +6,11 @@ use Rattle.kk_code.specs.declared.fault.TicketFault.TheVariants.{Shape, Range as
 use Rattle.kk_words.specs.Arguments.{text_of_name}
 use Rattle.kk_words.specs.declared.argument.Name.{Name}
 use Rattle.kk_top.specs.declared.refusal.Refusal.{Refusal}
-use Rattle.kk_top.specs.declared.refusal.Refusal.TheVariants.{Words, Ticket, Range, Input, Length, Memory}
+use Rattle.kk_top.specs.declared.refusal.Refusal.TheVariants.{Words, Ticket, Seed, Range, Input, Length, Outlet, Memory}
 use Rattle.kk_sender.specs.declared.fault.FileFault.{FileFault}
 use Rattle.kk_sender.specs.declared.fault.FileFault.TheVariants as file_fault
+use Rattle.kk_sender.specs.declared.fault.SendFault.{SendFault}
+use Rattle.kk_sender.specs.declared.fault.SendFault.TheVariants as send_fault
 use Rattle.kk_outside.specs.Change.{Change}
 use Rattle.kk_outside.specs.Sink.{SinkTold, WasGiven}
 use Rattle.kk_top.specs.Report.{status_line}
@@ -17,9 +19,11 @@ use Rattle.kk_top.specs.Report.{status_line}
 abbrev pub status_of : Refusal → ℕ
 status_of Words = 1
 status_of (Ticket fault) = 2
+status_of Seed = 11
 status_of (Range name) = 11
 status_of Input = 4
 status_of (Length got more) = 9
+status_of Outlet = 7
 status_of Memory = 8
 
 -- why a word is no ticket
@@ -40,9 +44,11 @@ length_cause got more = if more then codes "length more" else codes "length " ++
 abbrev pub cause : Refusal → List ℕ
 cause Words = codes "words"
 cause (Ticket fault) = ticket_cause fault
+cause Seed = codes "range seed"
 cause (Range name) = range_cause name
 cause Input = codes "input fault"
 cause (Length got more) = length_cause got more
+cause Outlet = codes "outlet fault"
 cause Memory = codes "memory"
 
 -- the whole report
@@ -53,6 +59,13 @@ refusal_text refusal = cause refusal ++ codes "\n" ++ status_line (status_of ref
 abbrev pub refusal_of : FileFault → Refusal
 refusal_of file_fault.Read = Input
 refusal_of (file_fault.Length got more) = Length got more
+
+-- why a file isn't sent
+abbrev pub refusal_of_send : SendFault → Refusal
+refusal_of_send send_fault.Alloc = Memory
+refusal_of_send send_fault.Read = Input
+refusal_of_send (send_fault.Length got more) = Length got more
+refusal_of_send send_fault.Outlet = Outlet
 
 -- The run ended with the status of this cause, and its report is the cause's.
 pub record IsRefused (why : Refusal) (status : ℕ) (report : Change SinkTold) : Type 0 where

@@ -1,4 +1,5 @@
 pub mod Pack
 pub mod Plan
+pub mod Send
 pub mod Unpack
 pub mod UnpackExamples

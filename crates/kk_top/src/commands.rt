@@ -1,8 +1,10 @@
 //! The calls of the commands, one file each.
 mod pack;
 mod plan;
+mod send;
 mod unpack;
 
 pub use pack::run_pack;
 pub use plan::run_plan;
+pub use send::run_send;
 pub use unpack::run_unpack;

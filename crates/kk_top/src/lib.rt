@@ -20,7 +20,7 @@ mod unpacking;
 mod words;
 
 pub use addresses::{Addresses, places};
-pub use commands::{run_pack, run_plan, run_unpack};
+pub use commands::{run_pack, run_plan, run_send, run_unpack};
 pub use kk_outside::Alloc;
 pub use kk_words::WordsFault;
 pub use program::run;

@@ -132,7 +132,7 @@ pub(crate) fn inserts_line(totals: &Totals) -> LongLine
 }
 
 /// Appends a name and a number.
-fn push_count(line: &mut LongLine, name: &str, count: u64)
+pub(crate) fn push_count(line: &mut LongLine, name: &str, count: u64)
     requires { array_string_len line.old + length name.now + 20 ≤ 352 }
     ensures bytes { line.new.bytes ≡ line.old.bytes ++ name.now ++ decimal count }
     ensures len { array_string_len line.new ≤ array_string_len line.old + length name.now + 20 }

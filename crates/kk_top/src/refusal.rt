@@ -1,11 +1,11 @@
 //! Why a command is refused.
 ghost use Rattle.std.specs.Prelude.{◌≡◌, ◌≤◌};
 ghost use Rattle.arrayvec.specs.ArrayString.{array_string_len};
-ghost use Rattle.kk_top.specs.Refusal.{status_of, cause, range_cause, ticket_cause, length_cause, refusal_of, refusal_text};
+ghost use Rattle.kk_top.specs.Refusal.{status_of, cause, range_cause, ticket_cause, length_cause, refusal_of, refusal_of_send, refusal_text};
 
 use crate::lines::{Line, line_of, numbered, status_line};
 use kk_code::TicketFault;
-use kk_sender::FileFault;
+use kk_sender::{FileFault, SendFault};
 use kk_words::Name;
 
 /// Why a command is refused. Its report has a line with the cause, and the status.
@@ -15,6 +15,8 @@ pub(crate) enum Refusal {
     Words,
     /// The word that should be a ticket is none.
     Ticket(TicketFault),
+    /// The seed isn't 64 hexadecimal digits.
+    Seed,
     /// A number is out of its range.
     Range(Name),
     /// The source failed.
@@ -26,6 +28,8 @@ pub(crate) enum Refusal {
         /// Whether these are more than the file has.
         more: bool,
     },
+    /// The outlet failed.
+    Outlet,
     /// There is no memory.
     Memory,
 }
@@ -41,6 +45,19 @@ impl From<FileFault> for Refusal {
     }
 }
 
+impl From<SendFault> for Refusal {
+    ghost from_gives = { λ fault refusal. refusal ≡ refusal_of_send fault };
+
+    fn from(fault: SendFault) -> Refusal {
+        match fault {
+            SendFault::Alloc => Refusal::Memory,
+            SendFault::Read => Refusal::Input,
+            SendFault::Length { got, more } => Refusal::Length { got, more },
+            SendFault::Outlet => Refusal::Outlet,
+        }
+    }
+}
+
 impl Refusal {
     /// The number that the process ends with.
     pub(crate) fn status(self) -> u8
@@ -49,9 +66,10 @@ impl Refusal {
         match self {
             Refusal::Words => 1,
             Refusal::Ticket(_) => 2,
-            Refusal::Range(_) => 11,
+            Refusal::Seed | Refusal::Range(_) => 11,
             Refusal::Input => 4,
             Refusal::Length { .. } => 9,
+            Refusal::Outlet => 7,
             Refusal::Memory => 8,
         }
     }
@@ -74,9 +92,11 @@ impl Refusal {
         match self {
             Refusal::Words => line_of("words"),
             Refusal::Ticket(fault) => ticket_cause(fault),
+            Refusal::Seed => line_of("range seed"),
             Refusal::Range(name) => range_cause(name),
             Refusal::Input => line_of("input fault"),
             Refusal::Length { got, more } => length_cause(got, more),
+            Refusal::Outlet => line_of("outlet fault"),
             Refusal::Memory => line_of("memory"),
         }
     }

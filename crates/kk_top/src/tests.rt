@@ -1,6 +1,7 @@
 ghost use Rattle.std.specs.Prelude.{◌<◌};
 
 mod pack;
+mod send;
 
 use super::*;
 use kk_outside::{MemoryGate, MemoryOutlet, MemorySink, MemorySource, Source, StdSource};

@@ -13,7 +13,7 @@ use Rattle.kk_code.specs.declared.fault.TicketFault.TheVariants.{TooMany}
 use Rattle.kk_words.specs.declared.command.Command.TheVariants.{Plan}
 use Rattle.kk_words.specs.Request.{Request}
 use Rattle.kk_top.specs.declared.refusal.Refusal.{Refusal}
-use Rattle.kk_top.specs.declared.refusal.Refusal.TheVariants.{Words, Ticket, Range, Input, Length, Memory}
+use Rattle.kk_top.specs.declared.refusal.Refusal.TheVariants.{Words, Ticket, Seed, Range, Input, Length, Outlet, Memory}
 use Rattle.kk_top.specs.Command.{MayTouchFile}
 use Rattle.kk_top.specs.Refusal.{IsRefused}
 use Rattle.kk_top.specs.Report.{IsConcluded}
@@ -44,6 +44,8 @@ IsRefusedFor words Words = AsksNothingOf words Plan
 IsRefusedFor words (Ticket fault) = NamesNoCode words fault
 IsRefusedFor words (Range name) = ⊥
 IsRefusedFor words Input = ⊥
+IsRefusedFor words Seed = ⊥
+IsRefusedFor words Outlet = ⊥
 IsRefusedFor words (Length got more) = ⊥
 IsRefusedFor words Memory = Unit {0}
 
@@ -88,6 +90,8 @@ IsCauseOf words source (Ticket fault) =
     ⊎ ((t : TicketFields) × NamesCode words t × IsTooLong t (bytes_read source) × (fault ≡ TooMany (generations (for_length t (length (bytes_read source))))))
 IsCauseOf words source (Range name) = ⊥
 IsCauseOf words source Input = (t : TicketFields) × NamesCode words t × FailsBeforeEnd t source
+IsCauseOf words source Seed = ⊥
+IsCauseOf words source Outlet = ⊥
 IsCauseOf words source (Length got more) = ⊥
 IsCauseOf words source Memory = Unit {0}
 

@@ -17,7 +17,7 @@ use Rattle.kk_words.specs.declared.command.Command.TheVariants.{Unpack}
 use Rattle.kk_words.specs.declared.argument.Name.TheVariants.{Most}
 use Rattle.kk_words.specs.Request.{Request, number_of}
 use Rattle.kk_top.specs.declared.refusal.Refusal.{Refusal}
-use Rattle.kk_top.specs.declared.refusal.Refusal.TheVariants.{Words, Ticket, Range, Input, Length, Memory}
+use Rattle.kk_top.specs.declared.refusal.Refusal.TheVariants.{Words, Ticket, Seed, Range, Input, Length, Outlet, Memory}
 use Rattle.kk_top.specs.Answers.{file_text, outcomes_of, totals_of}
 use Rattle.kk_top.specs.Command.{EndedAtOnce, MayTouchFile}
 use Rattle.kk_top.specs.Refusal.{status_of, refusal_text}
@@ -48,6 +48,8 @@ IsRefusedFor words (Range Most) =
     (text : List ℕ) × (most : ℕ) × (t : TicketFields) × AsksToUnpack words text most × IsTicketText text t × ¬ IsMost most
 IsRefusedFor words (Range name) = ⊥
 IsRefusedFor words Input = ⊥
+IsRefusedFor words Seed = ⊥
+IsRefusedFor words Outlet = ⊥
 IsRefusedFor words (Length got more) = ⊥
 IsRefusedFor words Memory = Unit {0}
 

@@ -5,6 +5,7 @@ use Rattle.kk_outside.specs.Source.{bytes_read}
 use Rattle.kk_outside.specs.Sink.{WasGiven}
 use Rattle.kk_sender.proofs.Lengths.{the_file}
 use Rattle.kk_top.specs.Command.{texts}
+use Rattle.kk_top.specs.declared.refusal.Refusal.TheVariants.{Memory}
 use Rattle.kk_top.specs.Refusal.{status_of, refusal_text}
 use Rattle.kk_top.specs.Report.{concluded_text}
 use Rattle.kk_top.specs.Status.{code_of}
@@ -17,6 +18,11 @@ pub returns-in-Err-clause-packs : goal.returns-in-Err-clause-packs
 returns-in-Err-clause-packs g c =
     packs_refused (texts c.args.words.now) c.in-Err.refusal c.refuse.result (g.S.Source.told c.args.source.now) (g.K.Sink.told c.args.file.now) (change (g.P.Sink.told c.args.report.now) (g.P.Sink.told c.refuse.new.report))
     c.in-Err.ensures.refused c.refuse.ensures.status c.refuse.ensures.given
+
+pub returns-in_default-clause-packs : goal.returns-in_default-clause-packs
+returns-in_default-clause-packs g c =
+    packs_refused (texts c.args.words.now) Memory c.refuse-in_default.result (g.S.Source.told c.args.source.now) (g.K.Sink.told c.args.file.now) (change (g.P.Sink.told c.args.report.now) (g.P.Sink.told c.refuse-in_default.new.report))
+    tt c.refuse-in_default.ensures.status c.refuse-in_default.ensures.given
 
 pub returns-in-Err-read_file-clause-packs : goal.returns-in-Err-read_file-clause-packs
 returns-in-Err-read_file-clause-packs g c =
