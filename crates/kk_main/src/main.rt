@@ -55,6 +55,7 @@ fn main(rt: HostRuntime) -> ExitCode {
     let mut source = StdSource::new(Ahead::new(rt.stdin().lock()));
     let mut file = StdSink::new(rt.stdout());
     let mut report = StdSink::new(rt.stderr());
+    let mut logs = Vec::new(alloc);
     let status = kk_top::run(
         &rt,
         alloc,
@@ -64,6 +65,7 @@ fn main(rt: HostRuntime) -> ExitCode {
         &mut report,
         &mut gates,
         &mut outlet,
+        &mut logs,
     );
     ExitCode::from(status)
 }

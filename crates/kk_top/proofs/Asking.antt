@@ -15,7 +15,7 @@ use Rattle.kk_words.specs.declared.command.Command.{Command}
 use Rattle.kk_words.specs.Commands.{command_named}
 use Rattle.kk_words.specs.Request.{Request, request_of, request_for, request_from, is_of_form, matches_for, number_of}
 use Rattle.kk_top.specs.declared.refusal.Refusal.{Refusal}
-use Rattle.kk_top.specs.declared.refusal.Refusal.TheVariants.{Words, Ticket, Seed, Range, Input, Length, Outlet, Memory}
+use Rattle.kk_top.specs.declared.refusal.Refusal.TheVariants.{Words, Ticket, Seed, Range, Listen, Input, Length, Outlet, Memory}
 use Rattle.kk_top.specs.Command.{EndedAtOnce}
 use Rattle.kk_top.specs.Refusal.{status_of}
 use Rattle.kk_top.specs.Words.{IsRequestFor, AsksNothingOf, IsMost, named_in}
@@ -105,6 +105,7 @@ refused_tells words (Range Most) status why is other = record {
 refused_tells words Input status why is other = absurd why
 refused_tells words Seed status why is other = absurd why
 refused_tells words Outlet status why is other = absurd why
+refused_tells words Listen status why is other = absurd why
 refused_tells words (Length got more) status why is other = absurd why
 refused_tells words Memory status why is other = absurd (other is)
 

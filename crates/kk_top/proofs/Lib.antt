@@ -13,3 +13,9 @@ pub mod TicketWords
 pub mod Packs
 pub mod Packed
 pub mod Sends
+pub mod RelayOrders
+pub mod RelayRuns
+pub mod RelayPromises
+pub mod Logged
+pub mod Receivers
+pub mod Recvs

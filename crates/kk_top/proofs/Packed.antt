@@ -1,5 +1,5 @@
 -- The capture of a file, and what it unpacks to.
-use Rattle.std.proofs.Common.{◌≡◌, ℕ, zero, suc, ◌+◌, ◌-◌, ◌^◌, ◌<◌, ◌≤◌, List, [], ◌∷◌, ◌++◌, length, map, All, Some, refl, ap, sym, subst, ◌∙◌, arith, length-append, lit<}
+use Rattle.std.proofs.Common.{◌≡◌, ℕ, zero, suc, ◌+◌, ◌-◌, ◌<◌, ◌≤◌, List, [], ◌∷◌, ◌++◌, length, map, All, Some, refl, ap, sym, ◌∙◌, arith, length-append, lit<}
 use Rattle.std.specs.Prelude.{flat_map, sum_by}
 use Rattle.std.specs.List.{range_with_len}
 use Rattle.std.proofs.lemmas.List.{map-append, length-map}
@@ -9,8 +9,8 @@ use Rattle.kk_rows.proofs.Dimensions.{in_span_innovative}
 use Rattle.kk_rows.proofs.Spans.{HaveSameSpan-from_members}
 use Rattle.kk_rows.proofs.Distances.{distance_of_same_span}
 use Rattle.kk_outside.specs.declared.event.Event.{Event}
-use Rattle.kk_code.specs.Codeword.{Parameters, IsCode, width, codeword}
-use Rattle.kk_code.specs.Decoding.{Decodes, answer}
+use Rattle.kk_code.specs.Codeword.{Parameters, IsCode, codeword}
+use Rattle.kk_code.specs.Decoding.{answer}
 use Rattle.kk_code.specs.Ticket.{TicketFields, generations}
 use Rattle.kk_code.specs.TicketText.{IsTicket}
 use Rattle.kk_code.proofs.Enumeration.{answer-of_message}
@@ -20,14 +20,13 @@ use Rattle.kk_assemble.proofs.Cuts.{cut_is_message, file_from_answers}
 use Rattle.kk_frame.specs.declared.frame.TheConstants.{FRAME_BYTES}
 use Rattle.kk_frame.specs.Events.{datagrams}
 use Rattle.kk_frame.specs.Frame.{FrameValue, Vector, End, IsFrame, frame_text}
-use Rattle.kk_frame.specs.Generation.{rows_of}
 use Rattle.kk_frame.proofs.Captures.{capture-length}
 use Rattle.kk_frame.proofs.Generations.{frames_from, rows_of-frames, All-frames}
 use Rattle.kk_frame.proofs.Packs.{vector, packed_is_read}
-use Rattle.kk_top.specs.Answers.{frozen, answers, file_text}
+use Rattle.kk_top.specs.Answers.{frozen, file_text}
 use Rattle.kk_sender.specs.SentFrames.{codeword_of, capture_frames, packed}
-use Rattle.kk_top.specs.Laws.{UnpackTo, PackedFileUnpacks}
-use Rattle.kk_top.specs.commands.Unpack.{piece_limits, pieces, pieces_read, vectors_of, counts_of, unpacked, read_length}
+use Rattle.kk_top.specs.Laws.{PackedFileUnpacks}
+use Rattle.kk_top.specs.commands.Unpack.{piece_limits, pieces_read, vectors_of, counts_of, unpacked, read_length}
 
 -- a ticket's code is one that the laws of codewords speak of
 ticket_code : (t : TicketFields) → IsTicket t → IsCode t.code

@@ -14,7 +14,7 @@ use Rattle.kk_sender.specs.SentFrames.{packed}
 use Rattle.kk_sender.proofs.Lengths.{right-told}
 use Rattle.kk_words.specs.declared.command.Command.TheVariants.{Pack}
 use Rattle.kk_top.specs.declared.refusal.Refusal.{Refusal}
-use Rattle.kk_top.specs.declared.refusal.Refusal.TheVariants.{Words, Ticket, Seed, Range, Input, Length, Outlet, Memory}
+use Rattle.kk_top.specs.declared.refusal.Refusal.TheVariants.{Words, Ticket, Seed, Range, Listen, Input, Length, Outlet, Memory}
 use Rattle.kk_top.specs.declared.status.Status.{Status}
 use Rattle.kk_top.specs.declared.status.Status.TheVariants.{Done, OutputFault}
 use Rattle.kk_top.specs.Status.{code_of}
@@ -64,6 +64,7 @@ packs_refused words (Range name) status source file report why is given = absurd
 packs_refused words Input status source file report why is given = absurd why
 packs_refused words Seed status source file report why is given = absurd why
 packs_refused words Outlet status source file report why is given = absurd why
+packs_refused words Listen status source file report why is given = absurd why
 packs_refused words (Length got more) status source file report why is given = absurd why
 packs_refused words Memory status source file report why is given = record {
   words_refused = λ other. absurd (other is);

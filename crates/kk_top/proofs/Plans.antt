@@ -20,7 +20,7 @@ use Rattle.kk_code.specs.declared.fault.TicketFault.TheVariants.{TooMany}
 use Rattle.kk_words.specs.declared.command.Command.TheVariants.{Plan}
 use Rattle.kk_words.specs.Request.{Request}
 use Rattle.kk_top.specs.declared.refusal.Refusal.{Refusal}
-use Rattle.kk_top.specs.declared.refusal.Refusal.TheVariants.{Words, Ticket, Seed, Range, Input, Length, Outlet, Memory}
+use Rattle.kk_top.specs.declared.refusal.Refusal.TheVariants.{Words, Ticket, Seed, Range, Listen, Input, Length, Outlet, Memory}
 use Rattle.kk_top.specs.Command.{MayTouchFile}
 use Rattle.kk_top.specs.Refusal.{status_of, refusal_text}
 use Rattle.kk_top.specs.Report.{concluded_text}
@@ -84,6 +84,7 @@ plans_refused words (Range name) status source file report why is given = absurd
 plans_refused words Input status source file report why is given = absurd why
 plans_refused words Seed status source file report why is given = absurd why
 plans_refused words Outlet status source file report why is given = absurd why
+plans_refused words Listen status source file report why is given = absurd why
 plans_refused words (Length got more) status source file report why is given = absurd why
 plans_refused words Memory status source file report why is given = record {
   words_refused = λ other. absurd (other is);

@@ -8,7 +8,7 @@ use Rattle.kk_outside.specs.Source.{SourceTold, SourceFailed, bytes_read}
 use Rattle.kk_outside.specs.Sink.{SinkTold, SinkFailed, WasGiven}
 use Rattle.kk_code.specs.Ticket.{TicketFields}
 use Rattle.kk_top.specs.declared.refusal.Refusal.{Refusal}
-use Rattle.kk_top.specs.declared.refusal.Refusal.TheVariants.{Words, Ticket, Seed, Range, Input, Length, Outlet, Memory}
+use Rattle.kk_top.specs.declared.refusal.Refusal.TheVariants.{Words, Ticket, Seed, Range, Listen, Input, Length, Outlet, Memory}
 use Rattle.kk_top.specs.Command.{EndedAtOnce, MayTouchFile}
 use Rattle.kk_top.specs.Delivery.{IsDelivered}
 use Rattle.kk_top.specs.Refusal.{status_of, refusal_text}
@@ -24,6 +24,7 @@ at_once words (Range name) status why is = inr (inr (inr is))
 at_once words Input status why is = absurd why
 at_once words Seed status why is = absurd why
 at_once words Outlet status why is = absurd why
+at_once words Listen status why is = absurd why
 at_once words (Length got more) status why is = absurd why
 at_once words Memory status why is = inr (inr (inl is))
 

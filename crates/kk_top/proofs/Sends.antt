@@ -1,5 +1,5 @@
 -- What `send` promises, at each of its ends.
-use Rattle.std.proofs.Common.{◌≡◌, ◌⊎◌, inl, inr, ℕ, ◌+◌, ◌<◌, ◌≤◌, Bool, true, false, ltb, eqb, ◌||◌, List, [], length, Option, Some, None, Result, Ok, Err, refl, ap, sym, subst, ◌∙◌, arith}
+use Rattle.std.proofs.Common.{◌≡◌, ◌⊎◌, inl, inr, ℕ, ◌+◌, ◌<◌, ◌≤◌, Bool, true, false, ltb, eqb, ◌||◌, List, length, Option, Some, None, Result, Ok, Err, refl, ap, sym, subst, ◌∙◌, arith}
 use Rattle.std.specs.Prelude.{◌↔◌, IfSome, is_some, slice_get}
 use Rattle.std.proofs.lemmas.Bool.{false≢true, eqb-true}
 use Rattle.std.proofs.lemmas.Bool.Decides.{nat_tests}
@@ -27,12 +27,13 @@ use Rattle.kk_words.specs.declared.command.Command.TheVariants.{Send}
 use Rattle.kk_words.specs.declared.argument.Name.TheVariants.{Extra, Pack}
 use Rattle.kk_words.specs.Request.{Request, number_of}
 use Rattle.kk_top.specs.declared.refusal.Refusal.{Refusal}
-use Rattle.kk_top.specs.declared.refusal.Refusal.TheVariants.{Words, Ticket, Seed, Range, Input, Length, Outlet, Memory}
-use Rattle.kk_top.specs.Refusal.{status_of, refusal_of_send, refusal_text, IsRefused}
+use Rattle.kk_top.specs.declared.refusal.Refusal.TheVariants.{Words, Ticket, Seed, Range, Listen, Input, Length, Outlet, Memory}
+use Rattle.kk_top.specs.Refusal.{status_of, refusal_of_send, refusal_text}
 use Rattle.kk_top.specs.Report.{concluded_text}
-use Rattle.kk_top.specs.TicketWord.{NamesTicketFor, NamesNoTicketFor}
-use Rattle.kk_top.specs.Words.{IsRequestFor, AsksNothingOf}
-use Rattle.kk_top.specs.commands.Send.{Order, AsksToSend, broken_range, OrdersSending, BreaksRange, IsRefusedFor, IsCauseOf, seed_of, words_of, ordered_datagrams, ordered_frames, sent_line, EndedBefore, IsSent, Sends}
+use Rattle.kk_top.specs.TicketWord.{NamesTicketFor}
+use Rattle.kk_top.specs.Words.{IsRequestFor}
+use Rattle.kk_top.specs.Seed.{seed_of}
+use Rattle.kk_top.specs.commands.Send.{Order, AsksToSend, broken_range, OrdersSending, BreaksRange, IsRefusedFor, IsCauseOf, ordered_datagrams, ordered_frames, sent_line, IsSent, Sends}
 use Rattle.kk_top.proofs.TicketWords.{same_request_for, ticket_or_none}
 
 -- ---- the order in the words
@@ -185,6 +186,7 @@ sends_refused words (Range name) status source outlet report why is given = send
 sends_refused words Input status source outlet report why is given = absurd why
 sends_refused words (Length got more) status source outlet report why is given = absurd why
 sends_refused words Outlet status source outlet report why is given = absurd why
+sends_refused words Listen status source outlet report why is given = absurd why
 sends_refused words Memory status source outlet report why is given = sends_without_memory words status source outlet report is given
 
 -- ---- by what `send_all` answers

@@ -1,4 +1,4 @@
--- The lines of the generations so far.
+-- The lines of the gates and of the generations so far.
 use Rattle.std.proofs.Common.{◌≡◌, ℕ, ◌+◌, ◌<◌, Bool, List, [], ◌∷◌, ◌++◌, length, take, drop, get_or, Err, ap, sym, subst, ◌∙◌, arith, map, append_assoc, length-take, take-append-drop, add-one}
 use Rattle.std.proofs.lemmas.List.{append-nil, length-map}
 use Rattle.std.proofs.lemmas.List.FromFn.{length-enumerate_from, get_or-enumerate_from}
@@ -7,7 +7,8 @@ use Rattle.std.specs.List.{enumerate_from}
 use Rattle.std.proofs.Math.Seq.{take-suc}
 use Rattle.kk_outside.specs.Sink.{SinkTold}
 use Rattle.kk_top.specs.Block.{Adds}
-use Rattle.kk_top.specs.Report.{generation_line, generation_lines_from, generation_lines}
+use Rattle.kk_frame.specs.declared.gate_count.GateCount.{GateCount}
+use Rattle.kk_top.specs.Report.{gate_line, gate_lines_from, generation_line, generation_lines_from, generation_lines}
 use Rattle.kk_top.proofs.Blocks.{Added, Added-after, Adds-after, Adds-stopped}
 
 -- the lines of some generations and of those behind them
@@ -54,3 +55,33 @@ enumerate_turn {X} f xs i item within at =
       omega (arith, inside, length-map xs f),
       ap (λ (p : ℕ × X). f p.1) is ∙ sym (get_or-map f xs i item.1),
     )
+
+-- ---- the lines of gates
+
+gate_lines_from-append : (first : ℕ) (xs ys : List GateCount) → gate_lines_from first (xs ++ ys) ≡ gate_lines_from first xs ++ gate_lines_from (first + length xs) ys
+gate_lines_from-append first [] ys = ap (λ (n : ℕ). gate_lines_from n ys) (omega arith)
+gate_lines_from-append first (x ∷ xs) ys =
+    ap (λ (l : List ℕ). gate_line first x ++ l) (gate_lines_from-append (first + 1) xs ys)
+    ∙ sym (append_assoc (gate_line first x) (gate_lines_from (first + 1) xs) (gate_lines_from (first + 1 + length xs) ys))
+    ∙ ap (λ (n : ℕ). gate_lines_from first (x ∷ xs) ++ gate_lines_from n ys) (omega arith)
+
+gate_lines-take_more : (all : List GateCount) (i : ℕ) (x : GateCount) → i < length all → x ≡ get_or all i x → gate_lines_from 0 (take (i + 1) all) ≡ gate_lines_from 0 (take i all) ++ gate_line i x
+gate_lines-take_more all i x within at =
+    let sized : length (take i all) ≡ i = omega (arith, length-take i all, within) in
+    ap (gate_lines_from 0) (ap (λ (n : ℕ). take n all) (add-one i) ∙ take-suc all i x within ∙ ap (λ (y : GateCount). take i all ++ y ∷ []) (sym at))
+    ∙ gate_lines_from-append 0 (take i all) (x ∷ [])
+    ∙ ap (λ (n : ℕ). gate_lines_from 0 (take i all) ++ gate_lines_from n (x ∷ [])) (omega (arith, sized))
+    ∙ ap (λ (l : List ℕ). gate_lines_from 0 (take i all) ++ l) (append-nil (gate_line i x))
+
+-- The lines of the first i gates were added. Then that of gate i is,
+pub Added-gate : (start now after : SinkTold) (held holding holds : List ℕ) (all : List GateCount) (i : ℕ) (x : GateCount) → i < length all → x ≡ get_or all i x → Added start now held holding (gate_lines_from 0 (take i all)) → Added now after holding holds (gate_line i x) → Added start after held holds (gate_lines_from 0 (take (i + 1) all))
+Added-gate start now after held holding holds all i x within at so_far line =
+    subst (Added start after held holds) (sym (gate_lines-take_more all i x within at)) (Added-after start now after held holding holds (gate_lines_from 0 (take i all)) (gate_line i x) so_far line)
+
+-- or the sink fails, and with it all lines do.
+pub Adds-gate_failed : {T U E : Type 0} {d e : E} (start now after : SinkTold) (held holding holds : List ℕ) (all : List GateCount) (i : ℕ) (x : GateCount) → i < length all → x ≡ get_or all i x → Added start now held holding (gate_lines_from 0 (take i all)) → Adds {T = T} now after holding holds (Err d) (gate_line i x) → Adds {T = U} start after held holds (Err e) (gate_lines_from 0 all)
+Adds-gate_failed {T} {U} {E} {d} {e} start now after held holding holds all i x within at so_far line =
+    let front = Adds-after start now after held holding holds (Err d) (gate_lines_from 0 (take i all)) (gate_line i x) so_far line in
+    let more = gate_lines_from (0 + length (take (i + 1) all)) (drop (i + 1) all) in
+    let whole = ap (λ l. l ++ more) (sym (gate_lines-take_more all i x within at)) ∙ sym (ap (gate_lines_from 0) (sym (take-append-drop (i + 1) all)) ∙ gate_lines_from-append 0 (take (i + 1) all) (drop (i + 1) all)) in
+    subst (Adds start after held holds (Err e)) whole (Adds-stopped start after held holds (gate_lines_from 0 (take i all) ++ gate_line i x) more front)

@@ -8,7 +8,7 @@ use Rattle.kk_code.specs.Ticket.{TicketFields, generations}
 use Rattle.kk_frame.specs.Generation.{rows_of}
 use Rattle.kk_assemble.specs.FileBits.{joined}
 use Rattle.kk_assemble.specs.Messages.{all_messages}
-use Rattle.kk_top.specs.declared.totals.Totals.{Totals}
+use Rattle.kk_workers.specs.declared.totals.Totals.{Totals}
 use Rattle.kk_top.specs.Report.{unfrozen_totals}
 
 -- the frozen space of generation g, by the rows that raised its dimension

@@ -4,8 +4,10 @@ pub mod Command
 pub mod Delivery
 pub mod Laws
 pub mod Places
+pub mod Receiver
 pub mod Refusal
 pub mod Report
+pub mod Seed
 pub mod Spaces
 pub mod Status
 pub mod Words

@@ -6,11 +6,13 @@ use Rattle.kk_code.specs.declared.fault.TicketFault.TheVariants.{Shape, Range as
 use Rattle.kk_words.specs.Arguments.{text_of_name}
 use Rattle.kk_words.specs.declared.argument.Name.{Name}
 use Rattle.kk_top.specs.declared.refusal.Refusal.{Refusal}
-use Rattle.kk_top.specs.declared.refusal.Refusal.TheVariants.{Words, Ticket, Seed, Range, Input, Length, Outlet, Memory}
+use Rattle.kk_top.specs.declared.refusal.Refusal.TheVariants.{Words, Ticket, Seed, Range, Listen, Input, Length, Outlet, Memory}
 use Rattle.kk_sender.specs.declared.fault.FileFault.{FileFault}
 use Rattle.kk_sender.specs.declared.fault.FileFault.TheVariants as file_fault
 use Rattle.kk_sender.specs.declared.fault.SendFault.{SendFault}
 use Rattle.kk_sender.specs.declared.fault.SendFault.TheVariants as send_fault
+use Rattle.kk_relay.specs.declared.relayed.RelayFault.{RelayFault}
+use Rattle.kk_relay.specs.declared.relayed.RelayFault.TheVariants as relay_fault
 use Rattle.kk_outside.specs.Change.{Change}
 use Rattle.kk_outside.specs.Sink.{SinkTold, WasGiven}
 use Rattle.kk_top.specs.Report.{status_line}
@@ -21,6 +23,7 @@ status_of Words = 1
 status_of (Ticket fault) = 2
 status_of Seed = 11
 status_of (Range name) = 11
+status_of Listen = 11
 status_of Input = 4
 status_of (Length got more) = 9
 status_of Outlet = 7
@@ -46,6 +49,7 @@ cause Words = codes "words"
 cause (Ticket fault) = ticket_cause fault
 cause Seed = codes "range seed"
 cause (Range name) = range_cause name
+cause Listen = codes "range listen"
 cause Input = codes "input fault"
 cause (Length got more) = length_cause got more
 cause Outlet = codes "outlet fault"
@@ -66,6 +70,11 @@ refusal_of_send send_fault.Alloc = Memory
 refusal_of_send send_fault.Read = Input
 refusal_of_send (send_fault.Length got more) = Length got more
 refusal_of_send send_fault.Outlet = Outlet
+
+-- why a relay has stopped before its end
+abbrev pub refusal_of_relay : RelayFault → Refusal
+refusal_of_relay relay_fault.Gate = Input
+refusal_of_relay relay_fault.Outlet = Outlet
 
 -- The run ended with the status of this cause, and its report is the cause's.
 pub record IsRefused (why : Refusal) (status : ℕ) (report : Change SinkTold) : Type 0 where

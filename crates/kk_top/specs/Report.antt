@@ -1,7 +1,7 @@
 -- The text of a report: lines that each end with a line feed, of words and numbers that one space parts.
 use Rattle.std.specs.Prelude.{◌≡◌, ◌↔◌, ◌⊎◌, ℕ, ◌+◌, ◌-◌, ◌==◌, Bool, true, false, if◌then◌else◌, List, [], ◌∷◌, ◌++◌, length, map, sum_by, Option, Some, None, is_some, refl, codes}
 use Rattle.std.specs.Fmt.{decimal, digits}
-use Rattle.std.specs.List.{zip}
+use Rattle.std.specs.List.{zip, range_with_len, slice_index_or}
 use Rattle.kk_outside.specs.Causes.{CanCount}
 use Rattle.kk_outside.specs.Change.{Change}
 use Rattle.kk_outside.specs.Sink.{SinkTold, SinkFailed, WasGiven}
@@ -10,7 +10,9 @@ use Rattle.kk_rows.specs.Span.{dimension}
 use Rattle.kk_frame.specs.declared.gate_count.Ended.{Ended}
 use Rattle.kk_frame.specs.declared.gate_count.Ended.TheVariants.{End, Idle, Most, Fault, Over}
 use Rattle.kk_frame.specs.declared.gate_count.GateCount.{GateCount}
-use Rattle.kk_top.specs.declared.totals.Totals.{Totals}
+use Rattle.kk_machine.specs.declared.log.Log.{Log}
+use Rattle.kk_table.specs.Logs.{log_at}
+use Rattle.kk_workers.specs.declared.totals.Totals.{Totals}
 
 -- the last line of every report
 abbrev pub status_line : ℕ → List ℕ
@@ -108,6 +110,20 @@ pub record IsConcluded (lines : List ℕ) (status : ℕ) (file report : Change S
   pub same_or_five : (status ≡ told) ⊎ ((told ≡ 0) × (status ≡ 5))
   pub five : CanCount file.old.faults → ((told ≡ 5) ↔ SinkFailed file)
   pub given : WasGiven (concluded_text told lines) report
+
+-- ---- the same by what a receiver with several gates leaves
+
+-- the rank of a generation's log, and whether it has an answer
+abbrev pub logged : List Log → List (Option (List ℕ)) → ℕ → ℕ × Bool
+logged logs answers g = (length (log_at logs g).rows, is_some (slice_index_or answers g None))
+
+-- the outcomes of the first n generations
+abbrev pub logged_outcomes : ℕ → List Log → List (Option (List ℕ)) → List (ℕ × Bool)
+logged_outcomes n logs answers = map (logged logs answers) (range_with_len 0 n)
+
+-- the report of a receiver: the status alone where it is 5
+abbrev pub receiver_report : ℕ → List GateCount → List (ℕ × Bool) → Totals → List ℕ
+receiver_report status gates generations totals = (if status == 5 then [] else received_lines gates generations totals) ++ status_line status
 
 -- ---- worked
 

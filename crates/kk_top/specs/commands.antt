@@ -1,5 +1,7 @@
 pub mod Pack
 pub mod Plan
+pub mod Relay
+pub mod Recv
 pub mod Send
 pub mod Unpack
 pub mod UnpackExamples

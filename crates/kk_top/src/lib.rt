@@ -10,6 +10,8 @@ mod lines;
 mod packing;
 mod program;
 mod receive;
+mod receiver;
+mod receiver_report;
 mod refusal;
 mod report;
 mod status;
@@ -20,7 +22,7 @@ mod unpacking;
 mod words;
 
 pub use addresses::{Addresses, places};
-pub use commands::{run_pack, run_plan, run_send, run_unpack};
+pub use commands::{run_pack, run_plan, run_recv, run_relay, run_send, run_unpack};
 pub use kk_outside::Alloc;
 pub use kk_words::WordsFault;
 pub use program::run;

@@ -3,10 +3,10 @@ ghost use Rattle.std.specs.Prelude.{◌≡◌, ◌+◌, ◌≤◌, ◌++◌, len
 ghost use Rattle.arrayvec.specs.ArrayString.{array_string_len};
 ghost use Rattle.kk_top.specs.Report.{status_line, count_line, end_word, gate_line, generation_line, inserts_line};
 
-use crate::totals::Totals;
 use arrayvec::ArrayString;
 use itoa::Buffer;
 use kk_frame::{Ended, GateCount};
+use kk_workers::Totals;
 
 /// A line of a name and a number or two. The longest has 56 bytes.
 pub(crate) type Line = ArrayString<64>;

@@ -1,37 +1,46 @@
 //! The whole program, over the objects that it is handed.
-ghost use Rattle.std.specs.Prelude.{◌≡◌, Some, None};
+ghost use Rattle.std.specs.Prelude.{◌≡◌, ◌≤◌, [], Some, None, length, drop, map};
 ghost use Rattle.kk_outside.specs.Change.{change};
+ghost use Rattle.kk_workers.specs.Headline.{changes};
 ghost use Rattle.kk_top.specs.Command.{texts, MayTouchFile};
 ghost use Rattle.kk_top.specs.Refusal.{IsRefused};
 ghost use Rattle.kk_top.specs.Words.{named_in};
 ghost use Rattle.kk_top.specs.commands.Pack.{Packs};
 ghost use Rattle.kk_top.specs.commands.Plan.{Plans};
+ghost use Rattle.kk_top.specs.commands.Relay.{EndedBefore, Relays};
+ghost use Rattle.kk_top.specs.commands.Recv.{Receives};
 ghost use Rattle.kk_top.specs.commands.Send.{Sends};
 ghost use Rattle.kk_top.specs.commands.Unpack.{Unpacks};
 
 use crate::refusal::Refusal;
 use crate::report::refuse;
 use crate::words::command_in;
-use crate::{run_pack, run_plan, run_send, run_unpack};
+use crate::{run_pack, run_plan, run_recv, run_relay, run_send, run_unpack};
 use kk_outside::{Gate, Outlet, Sink, Source};
+use kk_table::Logs;
 use kk_words::Command;
 use std::alloc::Global;
+use std::thread::Threads;
 
 /// Runs the command that the words name, and answers its status.
 ///
 /// `words` are those of the command line, without the program's name. The commands so far are `plan`, `pack`,
-/// `unpack` and `send`. `_rt` is the runtime, with no bound: nothing can be printed or opened by it. `_gates` are for
-/// commands to come.
-pub fn run<R, S: Source, K: Sink, P: Sink, G: Gate + Send, O: Outlet>(
-    _rt: &R,
+/// `unpack`, `send`, `relay` and `recv`. `rt` starts threads, and nothing can be printed or opened by it. `logs` is empty before,
+/// and `recv` leaves its logs there.
+pub fn run<R: Threads + Sync, S: Source, K: Sink, P: Sink, G: Gate + Send, O: Outlet>(
+    rt: &R,
     alloc: Global,
     words: &[String],
     source: &mut S,
     file: &mut K,
     report: &mut P,
-    _gates: &mut Vec<G>,
+    gates: &mut Vec<G>,
     outlet: &mut O,
+    logs: &mut Vec<Logs>,
 ) -> u8
+    requires few { length gates.old.items ≤ 16 }
+    requires no_logs { logs.old.items ≡ [] }
+
     // No command is named.
     ensures unnamed { named_in (texts words.now) ≡ None → IsRefused Refusal.Words result (change (P.told report.old) (P.told report.new)) }
 
@@ -50,17 +59,23 @@ pub fn run<R, S: Source, K: Sink, P: Sink, G: Gate + Send, O: Outlet>(
         → Sends (texts words.now) (change (S.told source.old) (S.told source.new))
         (change (P.told report.old) (P.told report.new)) (change (O.told outlet.old) (O.told outlet.new)) result }
     ensures relays { named_in (texts words.now) ≡ Some Command.Relay
-        → IsRefused Refusal.Words result (change (P.told report.old) (P.told report.new)) }
+        → Relays (texts words.now) (change (map G.told gates.old.items) (map G.told gates.new.items))
+        (change (P.told report.old) (P.told report.new)) (change (O.told outlet.old) (O.told outlet.new)) result }
     ensures receives { named_in (texts words.now) ≡ Some Command.Recv
-        → IsRefused Refusal.Words result (change (P.told report.old) (P.told report.new)) }
+        → Receives (texts words.now) (changes G.told gates.old.items gates.new.items)
+        (change (K.told file.old) (K.told file.new)) (change (P.told report.old) (P.told report.new)) logs.new.items result }
 
     // Words that aren't of a command's form read nothing, and a refusal writes nothing but its report.
     ensures unread { result ≡ 1 → source.new ≡ source.old }
     ensures unwritten { (MayTouchFile result → ⊥) → file.new ≡ file.old }
 
-    // No command receives datagrams so far, and only `send` sends any.
-    ensures gates { _gates.new ≡ _gates.old }
-    ensures outlet { (named_in (texts words.now) ≡ Some Command.Send → ⊥) → outlet.new ≡ outlet.old }
+    // Only `relay` and `recv` receive datagrams, `relay` from the first gate alone; only `send` and `relay` send any, and
+    // only `recv` leaves logs.
+    ensures gates { (named_in (texts words.now) ≡ Some Command.Relay → ⊥) → (named_in (texts words.now) ≡ Some Command.Recv → ⊥) → gates.new ≡ gates.old }
+    ensures others { named_in (texts words.now) ≡ Some Command.Relay → drop 1 gates.new.items ≡ drop 1 gates.old.items }
+    ensures unasked { named_in (texts words.now) ≡ Some Command.Relay → EndedBefore result → gates.new ≡ gates.old }
+    ensures outlet { (named_in (texts words.now) ≡ Some Command.Send → ⊥) → (named_in (texts words.now) ≡ Some Command.Relay → ⊥) → outlet.new ≡ outlet.old }
+    ensures logs { (named_in (texts words.now) ≡ Some Command.Recv → ⊥) → logs.new ≡ logs.old }
 {
     let Some(command) = command_in(words) else {
         return refuse(Refusal::Words, report);
@@ -70,7 +85,7 @@ pub fn run<R, S: Source, K: Sink, P: Sink, G: Gate + Send, O: Outlet>(
         Command::Pack => run_pack(alloc, words, source, file, report),
         Command::Unpack => run_unpack(alloc, words, source, file, report),
         Command::Send => run_send(alloc, words, source, report, outlet),
-        // Not built yet.
-        Command::Relay | Command::Recv => refuse(Refusal::Words, report),
+        Command::Relay => run_relay(alloc, words, report, gates, outlet),
+        Command::Recv => run_recv(rt, alloc, words, file, report, gates, logs),
     }
 }

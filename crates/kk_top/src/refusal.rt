@@ -1,10 +1,11 @@
 //! Why a command is refused.
 ghost use Rattle.std.specs.Prelude.{◌≡◌, ◌≤◌};
 ghost use Rattle.arrayvec.specs.ArrayString.{array_string_len};
-ghost use Rattle.kk_top.specs.Refusal.{status_of, cause, range_cause, ticket_cause, length_cause, refusal_of, refusal_of_send, refusal_text};
+ghost use Rattle.kk_top.specs.Refusal.{status_of, cause, range_cause, ticket_cause, length_cause, refusal_of, refusal_of_send, refusal_of_relay, refusal_text};
 
 use crate::lines::{Line, line_of, numbered, status_line};
 use kk_code::TicketFault;
+use kk_relay::RelayFault;
 use kk_sender::{FileFault, SendFault};
 use kk_words::Name;
 
@@ -19,7 +20,9 @@ pub(crate) enum Refusal {
     Seed,
     /// A number is out of its range.
     Range(Name),
-    /// The source failed.
+    /// There is no gate for a relay, or there are more addresses than a receiver listens at.
+    Listen,
+    /// The source failed, or the gate of a relay.
     Input,
     /// The source doesn't have as many bytes as the file.
     Length {
@@ -58,6 +61,17 @@ impl From<SendFault> for Refusal {
     }
 }
 
+impl From<RelayFault> for Refusal {
+    ghost from_gives = { λ fault refusal. refusal ≡ refusal_of_relay fault };
+
+    fn from(fault: RelayFault) -> Refusal {
+        match fault {
+            RelayFault::Gate => Refusal::Input,
+            RelayFault::Outlet => Refusal::Outlet,
+        }
+    }
+}
+
 impl Refusal {
     /// The number that the process ends with.
     pub(crate) fn status(self) -> u8
@@ -66,7 +80,7 @@ impl Refusal {
         match self {
             Refusal::Words => 1,
             Refusal::Ticket(_) => 2,
-            Refusal::Seed | Refusal::Range(_) => 11,
+            Refusal::Seed | Refusal::Range(_) | Refusal::Listen => 11,
             Refusal::Input => 4,
             Refusal::Length { .. } => 9,
             Refusal::Outlet => 7,
@@ -94,6 +108,7 @@ impl Refusal {
             Refusal::Ticket(fault) => ticket_cause(fault),
             Refusal::Seed => line_of("range seed"),
             Refusal::Range(name) => range_cause(name),
+            Refusal::Listen => line_of("range listen"),
             Refusal::Input => line_of("input fault"),
             Refusal::Length { got, more } => length_cause(got, more),
             Refusal::Outlet => line_of("outlet fault"),

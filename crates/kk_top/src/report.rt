@@ -13,7 +13,7 @@ use crate::block::Block;
 use crate::lines::{Lines, count_line, gate_line, generation_line, inserts_line, status_line};
 use crate::refusal::Refusal;
 use crate::status::Status;
-use crate::totals::Totals;
+use crate::totals::unfrozen;
 use kk_code::Message;
 use kk_frame::GateCount;
 use kk_outside::{Failed, Sink, write_all};
@@ -76,7 +76,7 @@ fn concluded(status: Status, lines: &str) -> Lines
 }
 
 /// The number of the status, where the report came out so: a report that can't be written turns 0 into 5.
-fn code_after(status: Status, outcome: Result<(), Failed>) -> u8
+pub(crate) fn code_after(status: Status, outcome: Result<(), Failed>) -> u8
     ensures same_or_five { (result ≡ code_of status) ⊎ ((code_of status ≡ 0) × (result ≡ 5)) }
     ensures failed { code_of status ≡ 0 → ((result ≡ 5) ↔ IsErr outcome) }
 {
@@ -125,7 +125,7 @@ fn add_outcome<P: Sink>(
         (outcome_lines counts.now spaces.now answers.now) }
     ensures cause { HasCause (P.told report.old).faults (P.told report.new).faults result }
 {
-    let totals = Totals::unfrozen(counts.frames, spaces);
+    let totals = unfrozen(counts.frames, spaces);
     block.push(report, count_line(spaces.len()).as_str().as_bytes())?;
     block.push(report, gate_line(0, counts).as_str().as_bytes())?;
     add_generations(block, report, spaces, answers)?;

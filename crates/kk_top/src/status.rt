@@ -9,6 +9,8 @@ pub(crate) enum Status {
     Done,
     /// Some generation doesn't decode.
     NotDecoded,
+    /// Some generation doesn't decode, and a gate failed.
+    GateFailed,
     /// A sink failed.
     OutputFault,
 }
@@ -21,6 +23,7 @@ impl Status {
         match self {
             Status::Done => 0,
             Status::NotDecoded => 3,
+            Status::GateFailed => 6,
             Status::OutputFault => 5,
         }
     }

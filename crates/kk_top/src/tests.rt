@@ -1,6 +1,7 @@
 ghost use Rattle.std.specs.Prelude.{◌<◌};
 
 mod pack;
+mod relay;
 mod send;
 
 use super::*;
@@ -131,6 +132,7 @@ fn run_on<S: Source>(
     let alloc = rt.alloc();
     let mut gates: Vec<MemoryGate> = Vec::new(alloc);
     let mut outlet = MemoryOutlet::new(alloc, 0, Vec::new(alloc))?;
+    let mut logs = Vec::new(alloc);
     Ok(run(
         rt,
         alloc,
@@ -140,6 +142,7 @@ fn run_on<S: Source>(
         report,
         &mut gates,
         &mut outlet,
+        &mut logs,
     ))
 }
 

@@ -4,32 +4,18 @@ ghost use Rattle.kk_rows.specs.Span.{dimension};
 ghost use Rattle.kk_top.specs.Report.{unfrozen_totals};
 
 use kk_rows::RowSpace;
+use kk_workers::Totals;
 
-/// How many inserts there were, and how many of them were answered in each way.
-#[derive(Clone, Copy, Debug, PartialEq, Eq)]
-pub(crate) struct Totals {
-    /// All of them.
-    pub(crate) inserts: u64,
-    /// Those that raised the rank of a space.
-    pub(crate) innovative: u64,
-    /// Those whose row was in the span of its space.
-    pub(crate) redundant: u64,
-    /// Those that came after a space was frozen.
-    pub(crate) late: u64,
-}
-
-impl Totals {
-    /// The totals of so many inserts into these spaces, none of which was frozen before the last.
-    pub(crate) fn unfrozen(inserts: u64, spaces: &[RowSpace]) -> Totals
-        requires { sum_by (λ space. dimension space.rows) spaces.now ≤ inserts }
-        ensures { result ≡ unfrozen_totals inserts (sum_by (λ space. dimension space.rows) spaces.now) }
-    {
-        let innovative = spaces.iter().map(|space| u64::from(space.rank())).sum();
-        Totals {
-            inserts,
-            innovative,
-            redundant: inserts - innovative,
-            late: 0,
-        }
+/// The totals of so many inserts into these spaces, none of which was frozen before the last.
+pub(crate) fn unfrozen(inserts: u64, spaces: &[RowSpace]) -> Totals
+    requires { sum_by (λ space. dimension space.rows) spaces.now ≤ inserts }
+    ensures { result ≡ unfrozen_totals inserts (sum_by (λ space. dimension space.rows) spaces.now) }
+{
+    let innovative = spaces.iter().map(|space| u64::from(space.rank())).sum();
+    Totals {
+        inserts,
+        innovative,
+        redundant: inserts - innovative,
+        late: 0,
     }
 }

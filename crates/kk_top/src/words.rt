@@ -1,13 +1,18 @@
 //! What the words ask of a command, and the ranges of its numbers.
-ghost use Rattle.std.specs.Prelude.{◌≡◌, ◌⊎◌, Err, IfOk, IfErr, IfSome, IsNone, IsSome, IsTrue, is_some, length};
+ghost use Rattle.std.specs.Prelude.{◌≡◌, ◌⊎◌, Err, IfOk, IfErr, IfSome, IsNone, IsSome, IsTrue, is_some, length, option_map};
 ghost use Rattle.kk_words.specs.Arguments.{default_of};
 ghost use Rattle.kk_words.specs.Request.{HasTexts, has_number, has_seed, number_of};
 ghost use Rattle.kk_top.specs.Command.{texts};
+ghost use Rattle.kk_top.specs.Seed.{seed_of};
 ghost use Rattle.kk_top.specs.Words.{IsRequestFor, AsksNothingOf, named_in, IsMost};
 
 use crate::refusal::Refusal;
+use hex::FromHex;
 use kk_words::{Asked, Command, Name, WordsFault, read_words};
 use std::alloc::Global;
+
+/// The most quiets in a row that `--idle` may name.
+pub(crate) const MAX_IDLE: u64 = 1_000_000;
 
 /// The most datagrams that `--most` may name.
 pub(crate) const MAX_MOST: u64 = 100_000_000;
@@ -50,4 +55,11 @@ pub(crate) fn most_in(number: u64) -> Option<u32>
         return None;
     }
     Some(number as u32)
+}
+
+/// The seed that a word of 64 hexadecimal digits is.
+pub(crate) fn seed_in(word: Option<&str>) -> Option<[u8; 32]>
+    ensures { result ≡ seed_of (option_map (λ w. w.now) word.entry) }
+{
+    <[u8; 32] as FromHex>::from_hex(word?).ok()
 }

@@ -1,6 +1,7 @@
 //! What a receiver leaves.
 ghost use Rattle.std.specs.Prelude.{◌≡◌, ◌<◌, length, slice_get, Some};
 ghost use Rattle.kk_rows.specs.Rows.{numbers};
+ghost use Rattle.kk_machine.specs.Steps.{IsLog};
 ghost use Rattle.kk_table.specs.Logs.{log_at};
 
 use crate::Totals;
@@ -45,7 +46,8 @@ impl Received {
     /// The frozen rows of the generation, in the order in which they were added. They are independent.
     pub fn log(&self, generation: u32) -> &[Row]
         requires { generation < self.now.logs.shape.generations }
-        ensures { numbers result.now ≡ (log_at self.now.logs.logs generation).rows }
+        ensures rows { numbers result.now ≡ (log_at self.now.logs.logs generation).rows }
+        ensures log { IsLog self.now.logs.shape.width (log_at self.now.logs.logs generation) }
     {
         self.logs.rows(generation)
     }

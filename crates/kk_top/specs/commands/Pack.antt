@@ -11,7 +11,7 @@ use Rattle.kk_sender.specs.LengthRule.{wrong_length, ReadsToLength, FailsWithinL
 use Rattle.kk_sender.specs.SentFrames.{capture_frames, packed}
 use Rattle.kk_words.specs.declared.command.Command.TheVariants.{Pack}
 use Rattle.kk_top.specs.declared.refusal.Refusal.{Refusal}
-use Rattle.kk_top.specs.declared.refusal.Refusal.TheVariants.{Words, Ticket, Seed, Range, Input, Length, Outlet, Memory}
+use Rattle.kk_top.specs.declared.refusal.Refusal.TheVariants.{Words, Ticket, Seed, Range, Listen, Input, Length, Outlet, Memory}
 use Rattle.kk_top.specs.Command.{MayTouchFile}
 use Rattle.kk_top.specs.Refusal.{IsRefused}
 use Rattle.kk_top.specs.Report.{IsConcluded}
@@ -26,6 +26,7 @@ IsRefusedFor words (Range name) = ⊥
 IsRefusedFor words Input = ⊥
 IsRefusedFor words Seed = ⊥
 IsRefusedFor words Outlet = ⊥
+IsRefusedFor words Listen = ⊥
 IsRefusedFor words (Length got more) = ⊥
 IsRefusedFor words Memory = Unit {0}
 
@@ -37,6 +38,7 @@ IsCauseOf words source (Range name) = ⊥
 IsCauseOf words source Input = (t : TicketFields) × NamesTicketFor Pack words t × FailsWithinLength t.length source
 IsCauseOf words source Seed = ⊥
 IsCauseOf words source Outlet = ⊥
+IsCauseOf words source Listen = ⊥
 IsCauseOf words source (Length got more) =
     (t : TicketFields) × NamesTicketFor Pack words t × ReadsToLength t.length source
     × (wrong_length t.length (length (bytes_read source)) ≡ Some (got, more))

@@ -13,7 +13,7 @@ use Rattle.kk_code.specs.declared.fault.TicketFault.TheVariants.{TooMany}
 use Rattle.kk_words.specs.declared.command.Command.TheVariants.{Plan}
 use Rattle.kk_words.specs.Request.{Request}
 use Rattle.kk_top.specs.declared.refusal.Refusal.{Refusal}
-use Rattle.kk_top.specs.declared.refusal.Refusal.TheVariants.{Words, Ticket, Seed, Range, Input, Length, Outlet, Memory}
+use Rattle.kk_top.specs.declared.refusal.Refusal.TheVariants.{Words, Ticket, Seed, Range, Listen, Input, Length, Outlet, Memory}
 use Rattle.kk_top.specs.Command.{MayTouchFile}
 use Rattle.kk_top.specs.Refusal.{IsRefused}
 use Rattle.kk_top.specs.Report.{IsConcluded}
@@ -46,6 +46,7 @@ IsRefusedFor words (Range name) = ⊥
 IsRefusedFor words Input = ⊥
 IsRefusedFor words Seed = ⊥
 IsRefusedFor words Outlet = ⊥
+IsRefusedFor words Listen = ⊥
 IsRefusedFor words (Length got more) = ⊥
 IsRefusedFor words Memory = Unit {0}
 
@@ -92,6 +93,7 @@ IsCauseOf words source (Range name) = ⊥
 IsCauseOf words source Input = (t : TicketFields) × NamesCode words t × FailsBeforeEnd t source
 IsCauseOf words source Seed = ⊥
 IsCauseOf words source Outlet = ⊥
+IsCauseOf words source Listen = ⊥
 IsCauseOf words source (Length got more) = ⊥
 IsCauseOf words source Memory = Unit {0}
 

@@ -1,10 +1,6 @@
 -- `send`: a file comes in, and goes out in datagrams.
-use Rattle.std.specs.Prelude.{◌≡◌, ◌↔◌, ◌⊎◌, ℕ, ◌+◌, nat_lt, ◌||◌, if◌then◌else◌, List, [], ◌++◌, length, codes, slice_get, unwrap_or, Option, Some, None, IfSome}
+use Rattle.std.specs.Prelude.{◌≡◌, ◌↔◌, ◌⊎◌, ℕ, ◌+◌, nat_lt, ◌||◌, if◌then◌else◌, List, ◌++◌, length, codes, slice_get, Option, Some, None, IfSome}
 use Rattle.std.specs.Fmt.{decimal}
-use Rattle.std.specs.Result.{result_ok}
-use Rattle.hex.specs.Hex.{decode_sized}
-use Rattle.rand_core.specs.Steps.{stream_of, steps_u32}
-use Rattle.rand_chacha.specs.ChaCha.{of_seed, next_word}
 use Rattle.kk_outside.specs.Causes.{CanCount}
 use Rattle.kk_outside.specs.Change.{Change}
 use Rattle.kk_outside.specs.Generator.{word_at}
@@ -23,18 +19,14 @@ use Rattle.kk_words.specs.declared.command.Command.TheVariants.{Send}
 use Rattle.kk_words.specs.declared.argument.Name.TheVariants.{Extra, Pack}
 use Rattle.kk_words.specs.Request.{Request, number_of}
 use Rattle.kk_top.specs.declared.refusal.Refusal.{Refusal}
-use Rattle.kk_top.specs.declared.refusal.Refusal.TheVariants.{Words, Ticket, Seed, Range, Input, Length, Outlet, Memory}
+use Rattle.kk_top.specs.declared.refusal.Refusal.TheVariants.{Words, Ticket, Seed, Range, Listen, Input, Length, Outlet, Memory}
 use Rattle.kk_top.specs.Refusal.{IsRefused}
 use Rattle.kk_top.specs.Report.{concluded_text}
+use Rattle.kk_top.specs.Seed.{seed_of, stream_with}
 use Rattle.kk_top.specs.TicketWord.{NamesNoTicketFor}
 use Rattle.kk_top.specs.Words.{IsRequestFor, AsksNothingOf}
 
 -- ---- the words
-
--- the 32 bytes that 64 hexadecimal digits are, in either case; nothing where the word is no such text, or there is none
-abbrev pub seed_of : Option (List ℕ) → Option (List ℕ)
-seed_of None = None
-seed_of (Some word) = result_ok (decode_sized word 32)
 
 -- what is asked for: a ticket, the seed, where it is one, and how many combinations a generation and frames a datagram
 pub record Order : Type 0 where
@@ -82,13 +74,14 @@ IsRefusedFor words (Range name) = BreaksRange words (Range name)
 IsRefusedFor words Input = ⊥
 IsRefusedFor words (Length got more) = ⊥
 IsRefusedFor words Outlet = ⊥
+IsRefusedFor words Listen = ⊥
 IsRefusedFor words Memory = Unit {0}
 
 -- ---- the datagrams
 
 -- the words of the generator ChaCha20 with this seed
 abbrev pub words_of : Option (List ℕ) → ℕ → ℕ
-words_of seed = word_at (stream_of (steps_u32 (next_word 10)) (of_seed (unwrap_or seed [])))
+words_of seed = word_at (stream_with seed)
 
 -- what is sent of a file by an order
 unfoldable pub ordered_datagrams : Order → List ℕ → List (List ℕ)
@@ -106,6 +99,7 @@ IsCauseOf words source outlet Words = AsksNothingOf words Send
 IsCauseOf words source outlet (Ticket fault) = NamesNoTicketFor Send words fault
 IsCauseOf words source outlet Seed = BreaksRange words Seed
 IsCauseOf words source outlet (Range name) = BreaksRange words (Range name)
+IsCauseOf words source outlet Listen = ⊥
 IsCauseOf words source outlet Input = (order : Order) × OrdersSending words order × FailsWithinLength order.ticket.length source
 IsCauseOf words source outlet (Length got more) =
     (order : Order) × OrdersSending words order × ReadsToLength order.ticket.length source

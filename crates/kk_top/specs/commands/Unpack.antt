@@ -17,7 +17,7 @@ use Rattle.kk_words.specs.declared.command.Command.TheVariants.{Unpack}
 use Rattle.kk_words.specs.declared.argument.Name.TheVariants.{Most}
 use Rattle.kk_words.specs.Request.{Request, number_of}
 use Rattle.kk_top.specs.declared.refusal.Refusal.{Refusal}
-use Rattle.kk_top.specs.declared.refusal.Refusal.TheVariants.{Words, Ticket, Seed, Range, Input, Length, Outlet, Memory}
+use Rattle.kk_top.specs.declared.refusal.Refusal.TheVariants.{Words, Ticket, Seed, Range, Listen, Input, Length, Outlet, Memory}
 use Rattle.kk_top.specs.Answers.{file_text, outcomes_of, totals_of}
 use Rattle.kk_top.specs.Command.{EndedAtOnce, MayTouchFile}
 use Rattle.kk_top.specs.Refusal.{status_of, refusal_text}
@@ -50,6 +50,7 @@ IsRefusedFor words (Range name) = ⊥
 IsRefusedFor words Input = ⊥
 IsRefusedFor words Seed = ⊥
 IsRefusedFor words Outlet = ⊥
+IsRefusedFor words Listen = ⊥
 IsRefusedFor words (Length got more) = ⊥
 IsRefusedFor words Memory = Unit {0}
 

@@ -1,15 +1,14 @@
 //! `send`: a file comes in, and goes out in datagrams.
-ghost use Rattle.std.specs.Prelude.{◌≡◌, ◌++◌, Some, option_map, codes, decimal, IfOk, IfErr};
+ghost use Rattle.std.specs.Prelude.{◌≡◌, ◌++◌, Some, codes, decimal, IfOk, IfErr};
 ghost use Rattle.kk_outside.specs.Change.{change};
 ghost use Rattle.kk_top.specs.Command.{texts};
-ghost use Rattle.kk_top.specs.commands.Send.{seed_of, OrdersSending, IsRefusedFor, IsSent, EndedBefore, Sends};
+ghost use Rattle.kk_top.specs.commands.Send.{OrdersSending, IsRefusedFor, IsSent, EndedBefore, Sends};
 
 use crate::lines::{LongLine, push_count};
 use crate::refusal::Refusal;
 use crate::report::{conclude, refuse};
 use crate::status::Status;
-use crate::words::asked_of;
-use hex::FromHex;
+use crate::words::{asked_of, seed_in};
 use kk_code::Ticket;
 use kk_frame::MAX_DATAGRAM_FRAMES;
 use kk_outside::{Outlet, Sink, Source};
@@ -97,13 +96,6 @@ fn order_in(alloc: Global, words: &[String]) -> Result<Order, Refusal>
         extra: extra as u32,
         pack: pack as u32,
     })
-}
-
-/// The seed that a word of 64 hexadecimal digits is.
-fn seed_in(word: Option<&str>) -> Option<[u8; 32]>
-    ensures { result ≡ seed_of (option_map (λ w. w.now) word.entry) }
-{
-    <[u8; 32] as FromHex>::from_hex(word?).ok()
 }
 
 /// The line that tells how much was sent.

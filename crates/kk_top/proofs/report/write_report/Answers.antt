@@ -4,7 +4,7 @@ use Rattle.std.proofs.lemmas.Result.{err_from_is_err_and}
 use Rattle.kk_rows.specs.Space.{Space}
 use Rattle.kk_frame.specs.declared.gate_count.GateCount.{GateCount}
 use Rattle.kk_top.specs.declared.status.Status.{Status}
-use Rattle.kk_top.specs.declared.status.Status.TheVariants.{Done, NotDecoded, OutputFault}
+use Rattle.kk_top.specs.declared.status.Status.TheVariants.{Done, NotDecoded, GateFailed, OutputFault}
 use Rattle.kk_top.specs.Report.{outcome_lines, outcome_report, status_line}
 use Rattle.kk_top.specs.Status.{code_of}
 use Rattle.kk_top.proofs.Blocks.{Added-ok, Adds-err, Adds-after, Added-after, Adds-stopped, WritesAllTo-added}
@@ -13,6 +13,7 @@ use Rattle.kk_top.proofs.report.write_report.Goals as goal
 with_lines : (status : Status) (counts : GateCount) (spaces : List Space) (answers : List (Option (List ℕ))) → (code_of status ≡ 5 → ⊥) → outcome_report (code_of status) counts spaces answers ≡ outcome_lines counts spaces answers ++ status_line (code_of status)
 with_lines Done counts spaces answers other = refl
 with_lines NotDecoded counts spaces answers other = refl
+with_lines GateFailed counts spaces answers other = refl
 with_lines OutputFault counts spaces answers other = absurd (other refl)
 
 pub returns-in_err-add_outcome-clause-writes : goal.returns-in_err-add_outcome-clause-writes

@@ -1,6 +1,6 @@
-use Rattle.std.proofs.Common.{◌≡◌, ◌⊎◌, inl, inr, Some, ap, sym, ◌∙◌, arith}
+use Rattle.std.proofs.Common.{inl, inr, Some, ap, sym, ◌∙◌, arith}
 use Rattle.kk_top.specs.Command.{texts}
-use Rattle.kk_top.specs.commands.Send.{seed_of}
+use Rattle.kk_top.specs.Seed.{seed_of}
 use Rattle.kk_top.proofs.Sends.{asks_by, no_seed, extra_broken, pack_broken}
 use Rattle.kk_top.proofs.commands.send.order_in.Goals as goal
 

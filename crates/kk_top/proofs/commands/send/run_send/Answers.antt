@@ -1,4 +1,4 @@
-use Rattle.std.proofs.Common.{◌≡◌, ℕ, List, ◌++◌, codes, length, Some, refl, ap, sym, subst, ◌∙◌}
+use Rattle.std.proofs.Common.{◌≡◌, ℕ, ◌++◌, codes, length, Some, refl, ap, subst, ◌∙◌}
 use Rattle.std.specs.Fmt.{decimal}
 use Rattle.kk_outside.specs.Change.{change}
 use Rattle.kk_outside.specs.Source.{bytes_read}
@@ -9,7 +9,7 @@ use Rattle.kk_top.specs.Command.{texts}
 use Rattle.kk_top.specs.Refusal.{status_of, refusal_text}
 use Rattle.kk_top.specs.Report.{concluded_text}
 use Rattle.kk_top.specs.commands.Send.{Order, ordered_datagrams, sent_line}
-use Rattle.kk_top.proofs.Sends.{sends_refused, sends_failed, sends_done, datagrams_by, frames_by, sent_err, alloc_outlet, IsSending}
+use Rattle.kk_top.proofs.Sends.{sends_refused, sends_failed, sends_done, datagrams_by, frames_by, sent_err, alloc_outlet}
 use Rattle.kk_top.proofs.commands.send.run_send.Goals as goal
 
 pub returns-in-Err-clause-sends : goal.returns-in-Err-clause-sends

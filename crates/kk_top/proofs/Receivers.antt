@@ -1,0 +1,295 @@
+-- What a receiver with several gates makes of the events of its gates.
+use Rattle.std.proofs.Common.{◌≡◌, ◌⊎◌, inl, inr, ℕ, zero, suc, ◌+◌, ◌<◌, Bool, true, false, if◌then◌else◌, List, [], ◌∷◌, ◌++◌, length, take, get_or, Option, Some, None, is_some, refl, ap, sym, subst, ◌∙◌, true≢false, arith}
+use Rattle.std.specs.Prelude.{◌↔◌, map, sum_by, All, IsSomeAnd}
+use Rattle.std.specs.List.{range_with_len}
+use Rattle.std.proofs.lemmas.List.{same_lists, length-map, take_more}
+use Rattle.std.proofs.lemmas.List.FromFn.{length-map-range_with_len, get_or-map-range_with_len}
+use Rattle.std.proofs.lemmas.List.Sums.{sum-map}
+use Rattle.kk_rows.specs.Span.{dimension}
+use Rattle.kk_rows.proofs.Dimensions.{dimension-same_span, in_span_innovative}
+use Rattle.kk_outside.specs.Causes.{CanCount}
+use Rattle.kk_outside.specs.Change.{Change}
+use Rattle.kk_outside.specs.Gate.{GateTold, events_told}
+use Rattle.kk_outside.specs.Sink.{SinkTold, SinkFailed, WasGiven}
+use Rattle.kk_code.specs.Decoding.{answer}
+use Rattle.kk_code.specs.Ticket.{TicketFields, generations}
+use Rattle.kk_decode.proofs.Answering.{answer-same_span}
+use Rattle.kk_frame.specs.declared.frame.TheConstants.{FRAME_BYTES}
+use Rattle.kk_frame.specs.declared.limits.Limits.{Limits}
+use Rattle.kk_frame.specs.declared.gate_count.Ended.{Ended}
+use Rattle.kk_frame.specs.declared.gate_count.Ended.TheVariants as ended
+use Rattle.kk_frame.specs.declared.gate_count.GateCount.{GateCount}
+use Rattle.kk_frame.specs.Events.{counts}
+use Rattle.kk_frame.specs.Generation.{rows_of}
+use Rattle.kk_machine.specs.declared.log.Log.{Log}
+use Rattle.kk_machine.specs.Spaces.{unseen}
+use Rattle.kk_table.specs.declared.view.Known.{Known}
+use Rattle.kk_table.specs.Logs.{LogsView, log_at}
+use Rattle.kk_outside.specs.Gate.{GateFailed}
+use Rattle.kk_workers.specs.Worker.{no_counts}
+use Rattle.kk_workers.specs.Headline.{all_taken, ReceivedView, Headline, AddUp}
+use Rattle.kk_workers.proofs.Counting.{same_totals}
+use Rattle.kk_workers.proofs.Headlines.{log-spans, answer-taken}
+use Rattle.kk_top.specs.Answers.{frozen, answers, file_of, file_text, outcomes_of, totals_of}
+use Rattle.kk_top.specs.Command.{MayTouchFile}
+use Rattle.kk_top.specs.Delivery.{IsDelivered}
+use Rattle.kk_top.specs.Receiver.{plan_of, received, gate_counts, is_fault, some_fault, SomeFailed, after_gates, report_of, IsReceiver}
+use Rattle.kk_top.specs.Report.{logged, logged_outcomes, receiver_report}
+use Rattle.kk_top.proofs.Reporting.{IsStatusOf}
+
+-- ---- faults of gates
+
+fault_is : (o : Option Ended) → is_fault o ≡ true → o ≡ Some ended.Fault
+fault_is None is = absurd (true≢false (sym is))
+fault_is (Some ended.End) is = absurd (true≢false (sym is))
+fault_is (Some ended.Idle) is = absurd (true≢false (sym is))
+fault_is (Some ended.Most) is = absurd (true≢false (sym is))
+fault_is (Some ended.Fault) is = refl
+fault_is (Some ended.Over) is = absurd (true≢false (sym is))
+
+-- one of the gates ended by a fault
+pub some_fault-at : (gates : List GateCount) (i : ℕ) (c : GateCount) → i < length gates → get_or gates i c ≡ c → is_fault c.ended ≡ true → some_fault gates ≡ true
+some_fault-at [] i c near at is = absurd (omega (arith, near))
+some_fault-at (x ∷ xs) zero c near at is = let here : is_fault x.ended ≡ true = ap (λ (y : GateCount). is_fault y.ended) at ∙ is in rw here refl
+some_fault-at (x ∷ xs) (suc i) c near at is = by_first (is_fault x.ended) (some_fault-at xs i c (omega (arith, near)) at is)
+  where
+    by_first : (b : Bool) → some_fault xs ≡ true → (if b then true else some_fault xs) ≡ true
+    by_first true rest = refl
+    by_first false rest = rest
+
+some_fault-push : (xs : List GateCount) (c : GateCount) → some_fault xs ≡ false → is_fault c.ended ≡ false → some_fault (xs ++ c ∷ []) ≡ false
+some_fault-push [] c none sound = rw sound refl
+some_fault-push (x ∷ xs) c none sound = by_first (is_fault x.ended) none (λ rest. some_fault-push xs c rest sound)
+  where
+    by_first : (b : Bool) → (if b then true else some_fault xs) ≡ false → (some_fault xs ≡ false → some_fault (xs ++ c ∷ []) ≡ false) → (if b then true else some_fault (xs ++ c ∷ [])) ≡ false
+    by_first true rest below = absurd (true≢false rest)
+    by_first false rest below = below rest
+
+-- none of the first i + 1 gates did
+pub some_fault-more : (gates : List GateCount) (i : ℕ) (c : GateCount) → i < length gates → get_or gates i c ≡ c → is_fault c.ended ≡ false → some_fault (take i gates) ≡ false → some_fault (take (i + 1) gates) ≡ false
+some_fault-more gates i c near at sound none =
+    ap some_fault (take_more gates i c near ∙ ap (λ (x : GateCount). take i gates ++ x ∷ []) at) ∙ some_fault-push (take i gates) c none sound
+
+-- the counts of a gate rose where it ended by a fault, and only there
+some_failed : (f : Change GateTold → GateCount) (gates : List (Change GateTold)) → ((i : ℕ) (d : Change GateTold) → i < length gates → ((f (get_or gates i d)).ended ≡ Some ended.Fault) ↔ GateFailed (get_or gates i d)) → (some_fault (map f gates) ≡ true) ↔ SomeFailed gates
+some_failed f [] same = (λ is. absurd (true≢false (sym is)), λ none. absurd none)
+some_failed f (g ∷ gs) same =
+    let first : ((f g).ended ≡ Some ended.Fault) ↔ GateFailed g = same 0 g (omega arith) in
+    let rest : (some_fault (map f gs) ≡ true) ↔ SomeFailed gs = some_failed f gs (λ i d near. same (suc i) d (omega (arith, near))) in
+    (forth (is_fault (f g).ended) refl first rest, back (is_fault (f g).ended) refl first rest)
+  where
+    forth : (b : Bool) → is_fault (f g).ended ≡ b → ((f g).ended ≡ Some ended.Fault) ↔ GateFailed g → (some_fault (map f gs) ≡ true) ↔ SomeFailed gs → (if b then true else some_fault (map f gs)) ≡ true → GateFailed g ⊎ SomeFailed gs
+    forth true is first rest e = inl (first.0 (fault_is (f g).ended is))
+    forth false is first rest e = inr (rest.0 e)
+
+    back : (b : Bool) → is_fault (f g).ended ≡ b → ((f g).ended ≡ Some ended.Fault) ↔ GateFailed g → (some_fault (map f gs) ≡ true) ↔ SomeFailed gs → GateFailed g ⊎ SomeFailed gs → (if b then true else some_fault (map f gs)) ≡ true
+    back true is first rest e = refl
+    back false is first rest (inl failed) = absurd (true≢false (sym (ap is_fault (first.1 failed)) ∙ is))
+    back false is first rest (inr later) = rest.1 later
+
+-- ---- lists by their places
+
+map_at : {X Y : Type 0} (f : X → Y) (xs : List X) (i : ℕ) (d : Y) (x : X) → i < length xs → get_or (map f xs) i d ≡ f (get_or xs i x)
+map_at f [] i d x near = absurd (omega (arith, near))
+map_at f (y ∷ ys) zero d x near = refl
+map_at f (y ∷ ys) (suc i) d x near = map_at f ys i d x (omega (arith, near))
+
+first_of : {X : Type 0} (xs : List X) (i : ℕ) → i < length xs → X
+first_of [] i near = absurd (omega (arith, near))
+first_of (x ∷ xs) i near = x
+
+received_is : (t : TicketFields) (limits : Limits) (gates : List (Change GateTold)) → received t limits gates ≡ file_text t (all_taken t limits gates)
+unfolding received
+received_is t limits gates = refl
+
+-- ---- the run
+
+module _ (t : TicketFields) (limits : Limits) (gates : List (Change GateTold)) (r : ReceivedView) (line : Headline t (plan_of limits) gates r) (sums : AddUp t (plan_of limits) gates r) where
+  abbrev n : ℕ
+  n = generations t
+
+  abbrev vectors : List (ℕ × ℕ)
+  vectors = all_taken t limits gates
+
+  abbrev count_of : Change GateTold → GateCount
+  count_of gate = counts FRAME_BYTES t limits (events_told gate)
+
+  -- the counts of the gates
+  counts_are : r.gates ≡ gate_counts t limits gates
+  counts_are = same_lists r.gates (map count_of gates) (line.counted ∙ sym (length-map gates count_of))
+      (λ i d near.
+      let inside : i < length gates = omega (arith, near, line.counted) in
+      let g = first_of gates i inside in
+      let k : Known = record { number = 0; note = []; calls = []; seen = []; accesses = 0 } in
+      (line.passes i g d k inside).worked.takes.counts ∙ sym (map_at count_of gates i d g inside))
+
+  pub fault_is_told : some_fault r.gates ≡ some_fault (gate_counts t limits gates)
+  fault_is_told = ap some_fault counts_are
+
+  gate_faults : All (λ gate. CanCount gate.old.faults) gates → (some_fault (gate_counts t limits gates) ≡ true) ↔ SomeFailed gates
+  gate_faults can = some_failed count_of gates (λ i d near.
+      let p = line.passes i d no_counts no_pass near in
+      let same : (get_or r.gates i no_counts).ended ≡ (count_of (get_or gates i d)).ended = ap (λ (c : GateCount). c.ended) p.worked.takes.counts in
+      let exact = p.fault (can i d near) in
+      (λ e. exact.0 (same ∙ e), λ rose. sym same ∙ exact.1 rose))
+    where
+      no_pass : Known
+      no_pass = record { number = 0; note = []; calls = []; seen = []; accesses = 0 }
+
+  -- the answers
+  answer_is : (g : ℕ) (d : Option (List ℕ)) → g < n → get_or r.answers g d ≡ answer t.code (frozen vectors g)
+  answer_is g d near = answer-taken t (plan_of limits) gates r refl line g d near
+      ∙ sym (answer-same_span t.code (frozen vectors g) (rows_of g vectors) (in_span_innovative (rows_of g vectors)))
+
+  abbrev one_each : length r.answers ≡ n
+  one_each = ap (λ (x : List (Option (List ℕ))). length x) line.answers ∙ length-map r.logs.logs (λ l. answer t.code l.rows) ∙ line.all_logs
+
+  pub answers_are : r.answers ≡ answers t vectors
+  answers_are =
+      let f = λ (g : ℕ). answer t.code (frozen vectors g) in
+      same_lists r.answers (map f (range_with_len 0 n)) (one_each ∙ sym (length-map-range_with_len f 0 n))
+      (λ g d near. answer_is g d (omega (arith, near, one_each)) ∙ sym (get_or-map-range_with_len f 0 n g g d (omega (arith, near, one_each)) (omega arith)))
+
+  -- the ranks
+  rank_is : (g : ℕ) → g < n → length (log_at r.logs.logs g).rows ≡ dimension (frozen vectors g)
+  rank_is g near =
+      let l = log_at r.logs.logs g in
+      sym (line.frozen g near).independent
+      ∙ dimension-same_span l.rows (frozen vectors g) (λ x. log-spans t (plan_of limits) gates r refl line g near x ∙ sym (in_span_innovative (rows_of g vectors) x))
+
+  outcomes_are : logged_outcomes n r.logs.logs r.answers ≡ outcomes_of t vectors
+  outcomes_are =
+      let f = logged r.logs.logs r.answers in
+      let h : ℕ → ℕ × Bool = λ g. (dimension (frozen vectors g), is_some (answer t.code (frozen vectors g))) in
+      let at : (g : ℕ) → g < n → f g ≡ h g = λ g below i. (rank_is g below i, is_some (answer_is g None below i)) in
+      same_lists (map f (range_with_len 0 n)) (map h (range_with_len 0 n)) (length-map-range_with_len f 0 n ∙ sym (length-map-range_with_len h 0 n))
+      (λ g d near.
+      let below : g < n = omega (arith, near, length-map-range_with_len f 0 n) in
+      get_or-map-range_with_len f 0 n g g d below (omega arith)
+      ∙ at g below
+      ∙ sym (get_or-map-range_with_len h 0 n g g d below (omega arith)))
+
+  -- the totals
+  ranks_are : sum_by (λ (l : Log). length l.rows) r.logs.logs ≡ sum_by (λ g. dimension (frozen vectors g)) (range_with_len 0 n)
+  ranks_are =
+      let rank = λ (l : Log). length l.rows in
+      let dim = λ (g : ℕ). dimension (frozen vectors g) in
+      sym (sum-map rank r.logs.logs)
+      ∙ ap (sum_by (λ k. k)) (same_lists (map rank r.logs.logs) (map dim (range_with_len 0 n))
+      (length-map r.logs.logs rank ∙ line.all_logs ∙ sym (length-map-range_with_len dim 0 n))
+      (λ g d near.
+      let below : g < n = omega (arith, near, length-map r.logs.logs rank, line.all_logs) in
+      map_at rank r.logs.logs g d unseen (omega (arith, below, line.all_logs)) ∙ rank_is g below ∙ sym (get_or-map-range_with_len dim 0 n g g d below (omega arith))))
+      ∙ sum-map dim (range_with_len 0 n)
+
+  totals_are : r.totals ≡ totals_of t vectors
+  totals_are =
+      let none = line.nobody_late refl in
+      let ranks = sums.innovative ∙ ranks_are in
+      same_totals sums.inserts ranks (omega (arith, sums.kinds, none, sums.inserts, ranks)) none
+
+  report_is : (status : ℕ) → receiver_report status r.gates (logged_outcomes n r.logs.logs r.answers) r.totals ≡ report_of t limits gates status
+  report_is status = λ i. receiver_report status (counts_are i) (outcomes_are i) (totals_are i)
+
+  pub file_is : received t limits gates ≡ file_of t r.answers
+  file_is = received_is t limits gates ∙ ap (file_of t) (sym answers_are)
+
+  -- ---- the status
+
+  abbrev fault : Bool
+  fault = some_fault (gate_counts t limits gates)
+
+  module _ (delivered told status : ℕ) (file report : Change SinkTold) (is_delivered : IsDelivered (file_of t r.answers) delivered file) (told_is : told ≡ after_gates delivered (some_fault r.gates))
+      (same : IsStatusOf told status) (five : CanCount report.old.faults → told ≡ 0 → (status ≡ 5) ↔ SinkFailed report)
+      (given : WasGiven (receiver_report told r.gates (logged_outcomes n r.logs.logs r.answers) r.totals) report) where
+    told_so : told ≡ after_gates delivered fault
+    told_so = told_is ∙ ap (after_gates delivered) fault_is_told
+
+    -- a file that isn't there is delivered by 3 alone
+    no_file : (received t limits gates ≡ None) ↔ (delivered ≡ 3)
+    no_file = (λ none. is_delivered.not_decoded.1 (sym file_is ∙ none), λ three. file_is ∙ is_delivered.not_decoded.0 three)
+
+    three_or_other : (b : Bool) → delivered ≡ 3 → after_gates delivered b ≡ (if b then 6 else 3)
+    three_or_other b three = ap (λ (d : ℕ). after_gates d b) three
+
+    other : (b : Bool) → MayTouchFile delivered → after_gates delivered b ≡ delivered
+    other b (inl zero_) = ap (λ (d : ℕ). after_gates d b) zero_ ∙ sym zero_
+    other b (inr five_) = ap (λ (d : ℕ). after_gates d b) five_ ∙ sym five_
+
+    -- what is told, by what was delivered and whether a gate failed
+    cases : ((delivered ≡ 3) × (fault ≡ true) × (told ≡ 6)) ⊎ (((delivered ≡ 3) × (fault ≡ false) × (told ≡ 3)) ⊎ (MayTouchFile delivered × (told ≡ delivered)))
+    cases = elim is_delivered.no_other [
+      | inl three ↦ by_fault fault refl three
+      | inr touched ↦ inr (inr (touched, told_so ∙ other fault touched))
+    ]
+      where
+        by_fault : (b : Bool) → fault ≡ b → delivered ≡ 3 → ((delivered ≡ 3) × (fault ≡ true) × (told ≡ 6)) ⊎ (((delivered ≡ 3) × (fault ≡ false) × (told ≡ 3)) ⊎ (MayTouchFile delivered × (told ≡ delivered)))
+        by_fault true is three = inl (three, is, told_so ∙ three_or_other fault three ∙ ap (λ (b : Bool). if b then 6 else 3) is)
+        by_fault false is three = inr (inl (three, is, told_so ∙ three_or_other fault three ∙ ap (λ (b : Bool). if b then 6 else 3) is))
+
+    pub is_receiver : (logs : List LogsView) → logs ≡ r.logs ∷ [] → IsReceiver t limits gates file report logs status
+    is_receiver logs kept = record {
+      not_decoded = (λ e. not_decoded_told e cases same, λ h. not_decoded_status h cases same);
+      gate_failed = (λ e. gate_failed_told e cases same, λ h. gate_failed_status h cases same);
+      gate_faults = gate_faults;
+      output_fault = λ can can_report touched. output can can_report touched cases same;
+      no_other_status = statuses cases same;
+      written = λ touched. subst (λ o. IsSomeAnd o (λ text. WasGiven text file)) (sym file_is) (is_delivered.written (touched_back cases same touched));
+      reported = record {
+        told = told;
+        same_or_five = same;
+        five = λ can touched. told_five can cases (touched_back cases same touched);
+        given = subst (λ text. WasGiven text report) (report_is told) given;
+      };
+      kept = (r, kept, line);
+    }
+      where
+        not_decoded_told : status ≡ 3 → ((delivered ≡ 3) × (fault ≡ true) × (told ≡ 6)) ⊎ (((delivered ≡ 3) × (fault ≡ false) × (told ≡ 3)) ⊎ (MayTouchFile delivered × (told ≡ delivered))) → IsStatusOf told status → (received t limits gates ≡ None) × (fault ≡ false)
+        not_decoded_told e (inl six) is = let is_six = six.2 in absurd (grind arith)
+        not_decoded_told e (inr (inl three)) is = (no_file.1 three.0, three.1)
+        not_decoded_told e (inr (inr touched)) is = let a = touched.0 in let b = touched.1 in absurd (grind arith)
+
+        not_decoded_status : (received t limits gates ≡ None) × (fault ≡ false) → ((delivered ≡ 3) × (fault ≡ true) × (told ≡ 6)) ⊎ (((delivered ≡ 3) × (fault ≡ false) × (told ≡ 3)) ⊎ (MayTouchFile delivered × (told ≡ delivered))) → IsStatusOf told status → status ≡ 3
+        not_decoded_status h (inl six) is = absurd (true≢false (sym six.1 ∙ h.1))
+        not_decoded_status h (inr (inl three)) is = let is_three = three.2 in grind arith
+        not_decoded_status h (inr (inr touched)) is = let d = no_file.0 h.0 in let is_touched = touched.0 in absurd (grind arith)
+
+        gate_failed_told : status ≡ 6 → ((delivered ≡ 3) × (fault ≡ true) × (told ≡ 6)) ⊎ (((delivered ≡ 3) × (fault ≡ false) × (told ≡ 3)) ⊎ (MayTouchFile delivered × (told ≡ delivered))) → IsStatusOf told status → (received t limits gates ≡ None) × (fault ≡ true)
+        gate_failed_told e (inl six) is = (no_file.1 six.0, six.1)
+        gate_failed_told e (inr (inl three)) is = let is_three = three.2 in absurd (grind arith)
+        gate_failed_told e (inr (inr touched)) is = let a = touched.0 in let b = touched.1 in absurd (grind arith)
+
+        gate_failed_status : (received t limits gates ≡ None) × (fault ≡ true) → ((delivered ≡ 3) × (fault ≡ true) × (told ≡ 6)) ⊎ (((delivered ≡ 3) × (fault ≡ false) × (told ≡ 3)) ⊎ (MayTouchFile delivered × (told ≡ delivered))) → IsStatusOf told status → status ≡ 6
+        gate_failed_status h (inl six) is = let is_six = six.2 in grind arith
+        gate_failed_status h (inr (inl three)) is = absurd (true≢false (sym h.1 ∙ three.1))
+        gate_failed_status h (inr (inr touched)) is = let d = no_file.0 h.0 in let is_touched = touched.0 in absurd (grind arith)
+
+        statuses : ((delivered ≡ 3) × (fault ≡ true) × (told ≡ 6)) ⊎ (((delivered ≡ 3) × (fault ≡ false) × (told ≡ 3)) ⊎ (MayTouchFile delivered × (told ≡ delivered))) → IsStatusOf told status → (status ≡ 3) ⊎ ((status ≡ 6) ⊎ MayTouchFile status)
+        statuses (inl six) (inl s) = inr (inl (s ∙ six.2))
+        statuses (inl six) (inr z) = inr (inr (inr z.1))
+        statuses (inr (inl three)) (inl s) = inl (s ∙ three.2)
+        statuses (inr (inl three)) (inr z) = inr (inr (inr z.1))
+        statuses (inr (inr touched)) (inl s) = inr (inr (subst MayTouchFile (sym (s ∙ touched.1)) touched.0))
+        statuses (inr (inr touched)) (inr z) = inr (inr (inr z.1))
+
+        touched_back : ((delivered ≡ 3) × (fault ≡ true) × (told ≡ 6)) ⊎ (((delivered ≡ 3) × (fault ≡ false) × (told ≡ 3)) ⊎ (MayTouchFile delivered × (told ≡ delivered))) → IsStatusOf told status → MayTouchFile status → MayTouchFile delivered
+        touched_back (inl six) is touched = let is_six = six.2 in absurd (grind arith)
+        touched_back (inr (inl three)) is touched = let is_three = three.2 in absurd (grind arith)
+        touched_back (inr (inr at)) is touched = at.0
+
+        told_five : CanCount file.old.faults → ((delivered ≡ 3) × (fault ≡ true) × (told ≡ 6)) ⊎ (((delivered ≡ 3) × (fault ≡ false) × (told ≡ 3)) ⊎ (MayTouchFile delivered × (told ≡ delivered))) → MayTouchFile delivered → (told ≡ 5) ↔ SinkFailed file
+        told_five can (inl six) touched = let is_three = six.0 in absurd (grind arith)
+        told_five can (inr (inl three)) touched = let is_three = three.0 in absurd (grind arith)
+        told_five can (inr (inr at)) touched = let exact = is_delivered.output_fault can touched in (λ e. exact.0 (sym at.1 ∙ e), λ failed. at.1 ∙ exact.1 failed)
+
+        output : CanCount file.old.faults → CanCount report.old.faults → MayTouchFile status → ((delivered ≡ 3) × (fault ≡ true) × (told ≡ 6)) ⊎ (((delivered ≡ 3) × (fault ≡ false) × (told ≡ 3)) ⊎ (MayTouchFile delivered × (told ≡ delivered))) → IsStatusOf told status → (status ≡ 5) ↔ (SinkFailed file ⊎ SinkFailed report)
+        output can can_report touched (inl six) is = let is_six = six.2 in absurd (grind arith)
+        output can can_report touched (inr (inl three)) is = let is_three = three.2 in absurd (grind arith)
+        output can can_report touched (inr (inr (inl zero_, at))) is =
+            let none : told ≡ 0 = at ∙ zero_ in
+            let kept : SinkFailed file → ⊥ = λ failed. let is_five = (is_delivered.output_fault can (inl zero_)).1 failed in omega (arith, zero_, is_five) in
+            (λ e. inr ((five can_report none).0 e), λ failed. elim failed [ inl file_failed ↦ absurd (kept file_failed) | inr report_failed ↦ (five can_report none).1 report_failed ])
+        output can can_report touched (inr (inr (inr is_five, at))) is =
+            let both : told ≡ 5 = at ∙ is_five in
+            let end : status ≡ 5 = elim is [ inl s ↦ s ∙ both | inr z ↦ z.1 ] in
+            (λ e. inl ((is_delivered.output_fault can (inr is_five)).0 is_five), λ _. end)

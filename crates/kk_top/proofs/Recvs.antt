@@ -1,0 +1,161 @@
+-- What words ask of `recv`, the ranges of its order, and what it promises at each of its ends.
+use Rattle.std.proofs.Common.{◌≡◌, ◌⊎◌, inl, inr, ℕ, ◌+◌, ◌<◌, ◌≤◌, List, length, Some, None, ap, sym, subst, ◌∙◌, arith}
+use Rattle.std.specs.Prelude.{is_some, slice_get}
+use Rattle.std.proofs.lemmas.Bool.{false≢true}
+use Rattle.std.proofs.lemmas.Bool.Decides.{nat_tests}
+use Rattle.std.proofs.lemmas.Option.{same_Some}
+use Rattle.kk_outside.specs.Change.{Change}
+use Rattle.kk_outside.specs.Gate.{GateTold}
+use Rattle.kk_outside.specs.Sink.{SinkTold, WasGiven}
+use Rattle.kk_code.specs.Ticket.{TicketFields}
+use Rattle.kk_code.specs.TicketText.{IsTicketText, spelled}
+use Rattle.kk_table.specs.Logs.{LogsView}
+use Rattle.kk_words.specs.declared.command.Command.TheVariants.{Recv}
+use Rattle.kk_words.specs.declared.argument.Name.TheVariants.{Idle, Most}
+use Rattle.kk_words.specs.Request.{Request, number_of}
+use Rattle.kk_workers.specs.declared.running.TheConstants.{MAX_GATES}
+use Rattle.kk_top.specs.declared.refusal.Refusal.{Refusal}
+use Rattle.kk_top.specs.declared.refusal.Refusal.TheVariants.{Words, Ticket, Seed, Range, Listen, Input, Length, Outlet, Memory}
+use Rattle.kk_top.specs.declared.words.TheConstants.{MAX_MOST, MAX_IDLE}
+use Rattle.kk_top.specs.Command.{EndedAtOnce, MayTouchFile}
+use Rattle.kk_top.specs.Receiver.{IsReceiver}
+use Rattle.kk_top.specs.Refusal.{status_of, refusal_text}
+use Rattle.kk_top.specs.TicketWord.{NamesTicketFor}
+use Rattle.kk_top.specs.Words.{IsRequestFor}
+use Rattle.kk_top.specs.commands.Recv.{Order, AsksToReceive, broken_range, OrdersReceiving, BreaksRange, IsRefusedFor, Receives}
+use Rattle.kk_top.proofs.TicketWords.{same_request_for, ticket_or_none}
+
+abbrev pub order_of : TicketFields → ℕ → ℕ → ℕ → Order
+order_of t addresses idle most = record { ticket = t; addresses = addresses; limits = record { idle = idle; most = most } }
+
+-- ---- the ranges
+
+-- an order by its parts, of which a range is broken
+pub breaks : (words : List (List ℕ)) (request : Request) (text : List ℕ) (t : TicketFields) (addresses idle most : ℕ) (why : Refusal) → IsRequestFor words Recv request → slice_get request.texts 0 ≡ Some text → IsTicketText text t → length request.texts ≡ addresses + 1 → number_of request.numbers Idle ≡ Some idle → number_of request.numbers Most ≡ Some most → broken_range (order_of t addresses idle most) ≡ Some why → BreaksRange words why
+breaks words request text t addresses idle most why asked first ticket is_addresses is_idle is_most broken = record {
+  order = order_of t addresses idle most;
+  asks = record { request = request; asked = asked; text = text; first = first; ticket = ticket; addresses = is_addresses; idle = is_idle; most = is_most };
+  broken = broken;
+}
+
+-- and one of which none is
+pub orders : (words : List (List ℕ)) (request : Request) (text : List ℕ) (t : TicketFields) (addresses idle most : ℕ) → IsRequestFor words Recv request → slice_get request.texts 0 ≡ Some text → IsTicketText text t → length request.texts ≡ addresses + 1 → number_of request.numbers Idle ≡ Some idle → number_of request.numbers Most ≡ Some most → broken_range (order_of t addresses idle most) ≡ None → OrdersReceiving words (order_of t addresses idle most)
+orders words request text t addresses idle most asked first ticket is_addresses is_idle is_most kept = record {
+  asks = record { request = request; asked = asked; text = text; first = first; ticket = ticket; addresses = is_addresses; idle = is_idle; most = is_most };
+  in_range = kept;
+}
+
+pub broken_idle : (t : TicketFields) (addresses idle most : ℕ) → (idle < 1) ⊎ (MAX_IDLE < idle) → broken_range (order_of t addresses idle most) ≡ Some (Range Idle)
+broken_idle t addresses idle most out = grind (arith, nat_tests)
+
+pub broken_most : (t : TicketFields) (addresses idle most : ℕ) → (idle < 1 → ⊥) → (MAX_IDLE < idle → ⊥) → (most < 1) ⊎ (MAX_MOST < most) → broken_range (order_of t addresses idle most) ≡ Some (Range Most)
+broken_most t addresses idle most some short out = grind (arith, nat_tests)
+
+pub broken_listen : (t : TicketFields) (addresses idle most : ℕ) → (idle < 1 → ⊥) → (MAX_IDLE < idle → ⊥) → (most < 1 → ⊥) → (MAX_MOST < most → ⊥) → MAX_GATES < addresses → broken_range (order_of t addresses idle most) ≡ Some Listen
+broken_listen t addresses idle most some short any few many = grind (arith, nat_tests)
+
+pub none_broken : (t : TicketFields) (addresses idle most : ℕ) → (idle < 1 → ⊥) → (MAX_IDLE < idle → ⊥) → (most < 1 → ⊥) → (MAX_MOST < most → ⊥) → (MAX_GATES < addresses → ⊥) → broken_range (order_of t addresses idle most) ≡ None
+none_broken t addresses idle most some short any few heard = grind (arith, nat_tests)
+
+-- a gate is given up after a quiet at the soonest, and takes a datagram at least
+pub kept_idle : (t : TicketFields) (addresses idle most : ℕ) → broken_range (order_of t addresses idle most) ≡ None → 1 ≤ idle
+kept_idle t addresses idle most kept = grind (arith, nat_tests)
+
+pub kept_most : (t : TicketFields) (addresses idle most : ℕ) → broken_range (order_of t addresses idle most) ≡ None → 1 ≤ most
+kept_most t addresses idle most kept = grind (arith, nat_tests)
+
+-- ---- what words ask for
+
+-- words ask to receive by one order
+same_order : (words : List (List ℕ)) (a b : Order) → AsksToReceive words a → AsksToReceive words b → a ≡ b
+same_order words a b one other =
+    let same = same_request_for Recv words one.request other.request one.asked other.asked in
+    let text = same_Some _ _ (sym one.first ∙ ap (λ (r : Request). slice_get r.texts 0) same ∙ other.first) in
+    let ticket = sym one.ticket.spells ∙ ap spelled text ∙ other.ticket.spells in
+    let addresses : a.addresses ≡ b.addresses = omega (arith, one.addresses, other.addresses, ap (λ (r : Request). length r.texts) same) in
+    let idle = same_Some _ _ (sym one.idle ∙ ap (λ (r : Request). number_of r.numbers Idle) same ∙ other.idle) in
+    let most = same_Some _ _ (sym one.most ∙ ap (λ (r : Request). number_of r.numbers Most) same ∙ other.most) in
+    λ i. record { ticket = ticket i; addresses = addresses i; limits = record { idle = idle i; most = most i } }
+
+names_ticket : (words : List (List ℕ)) (order : Order) → AsksToReceive words order → NamesTicketFor Recv words order.ticket
+names_ticket words order asks = record { request = asks.request; asked = asks.asked; text = asks.text; first = asks.first; ticket = asks.ticket }
+
+kept_or_broken : (words : List (List ℕ)) (order : Order) (cause : Refusal) → OrdersReceiving words order → BreaksRange words cause → ⊥
+kept_or_broken words order cause orders breaks =
+    false≢true (ap is_some (sym orders.in_range ∙ ap broken_range (same_order words order breaks.order orders.asks breaks.asks) ∙ breaks.broken))
+
+-- the order that words ask for, of two
+pub same_orders : (words : List (List ℕ)) (a b : Order) → OrdersReceiving words a → OrdersReceiving words b → a ≡ b
+same_orders words a b one other = same_order words a b one.asks other.asks
+
+-- ---- refused
+
+-- a range is broken
+recv_out_of_range : (words : List (List ℕ)) (cause : Refusal) (gates : List (Change GateTold)) (file report : Change SinkTold) (logs : List LogsView) (status : ℕ)
+    → BreaksRange words cause → IsRefusedFor words cause → status ≡ 11 → status ≡ status_of cause → WasGiven (refusal_text cause) report
+    → Receives words gates file report logs status
+recv_out_of_range words cause gates file report logs status why refused is tells given = record {
+  words_refused = λ _. (λ e. absurd (omega (arith, e, is)), λ none. absurd (none why.asks.request why.asks.asked));
+  ticket_refused = λ _. (λ e. absurd (omega (arith, e, is)), λ none. absurd (ticket_or_none Recv words why.order.ticket none.0 (names_ticket words why.order why.asks) none.1));
+  range_refused = λ _. (λ _. (cause, why), λ _. is);
+  no_other_status = inl (inr (inr (inr is)));
+  refused = λ _. (cause, refused, record { tells = tells; given = given });
+  received = λ order orders. absurd (kept_or_broken words order cause orders why);
+}
+
+-- the words are refused, or there is no memory
+pub recv_refused : (words : List (List ℕ)) (cause : Refusal) (gates : List (Change GateTold)) (file report : Change SinkTold) (logs : List LogsView) (status : ℕ)
+    → IsRefusedFor words cause → status ≡ status_of cause → WasGiven (refusal_text cause) report
+    → Receives words gates file report logs status
+recv_refused words Words gates file report logs status why is given = record {
+  words_refused = λ _. (λ _. why, λ _. is);
+  ticket_refused = λ _. (λ e. absurd (omega (arith, e, is)), λ none. absurd (why none.1.request none.1.asked));
+  range_refused = λ _. (λ e. absurd (omega (arith, e, is)), λ range. absurd (why range.1.asks.request range.1.asks.asked));
+  no_other_status = inl (inl is);
+  refused = λ _. (Words, why, record { tells = is; given = given });
+  received = λ order orders. absurd (why orders.asks.request orders.asks.asked);
+}
+recv_refused words (Ticket wrong) gates file report logs status why is given = record {
+  words_refused = λ _. (λ e. absurd (omega (arith, e, is)), λ none. absurd (none why.request why.asked));
+  ticket_refused = λ _. (λ _. (wrong, why), λ _. is);
+  range_refused = λ _. (
+    λ e. absurd (omega (arith, e, is)),
+    λ range. absurd (ticket_or_none Recv words range.1.order.ticket wrong (names_ticket words range.1.order range.1.asks) why),
+  );
+  no_other_status = inl (inr (inl is));
+  refused = λ _. (Ticket wrong, why, record { tells = is; given = given });
+  received = λ order orders. absurd (ticket_or_none Recv words order.ticket wrong (names_ticket words order orders.asks) why);
+}
+recv_refused words (Range name) gates file report logs status why is given = recv_out_of_range words (Range name) gates file report logs status why why is is given
+recv_refused words Listen gates file report logs status why is given = recv_out_of_range words Listen gates file report logs status why why is is given
+recv_refused words Seed gates file report logs status why is given = absurd why
+recv_refused words Input gates file report logs status why is given = absurd why
+recv_refused words (Length got more) gates file report logs status why is given = absurd why
+recv_refused words Outlet gates file report logs status why is given = absurd why
+recv_refused words Memory gates file report logs status why is given = record {
+  words_refused = λ other. absurd (other is);
+  ticket_refused = λ other. absurd (other is);
+  range_refused = λ other. absurd (other is);
+  no_other_status = inl (inr (inr (inl is)));
+  refused = λ _. (Memory, tt, record { tells = is; given = given });
+  received = λ order orders accepted. absurd (accepted (inr (inr (inl is))));
+}
+
+-- ---- over the gates
+
+ran_on : (status : ℕ) → (status ≡ 3) ⊎ ((status ≡ 6) ⊎ MayTouchFile status) → EndedAtOnce status → ⊥
+ran_on status is at_once = grind arith
+
+pub recv_received : (words : List (List ℕ)) (order : Order) (gates : List (Change GateTold)) (file report : Change SinkTold) (logs : List LogsView) (status : ℕ)
+    → OrdersReceiving words order → IsReceiver order.ticket order.limits gates file report logs status → Receives words gates file report logs status
+recv_received words order gates file report logs status orders run =
+    let accepted : EndedAtOnce status → ⊥ = ran_on status run.no_other_status in
+    record {
+      words_refused = λ _. (λ e. absurd (accepted (inl e)), λ none. absurd (none orders.asks.request orders.asks.asked));
+      ticket_refused = λ _. (λ e. absurd (accepted (inr (inl e))), λ none. absurd (ticket_or_none Recv words order.ticket none.0 (names_ticket words order orders.asks) none.1));
+      range_refused = λ _. (λ e. absurd (accepted (inr (inr (inr e)))), λ range. absurd (kept_or_broken words order range.0 orders range.1));
+      no_other_status = inr run.no_other_status;
+      refused = λ is. absurd (accepted is);
+      received = λ other others _.
+          subst (λ (o : Order). IsReceiver o.ticket o.limits gates file report logs status) (same_orders words order other orders others) run;
+    }

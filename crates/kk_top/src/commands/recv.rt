@@ -1,0 +1,87 @@
+//! `recv`: all gates are received from at once, and the file goes out.
+ghost use Rattle.std.specs.Prelude.{◌≡◌, ◌≤◌, ℕ, [], Some, length, IfOk, IfErr};
+ghost use Rattle.kk_outside.specs.Change.{change};
+ghost use Rattle.kk_workers.specs.Headline.{changes};
+ghost use Rattle.kk_top.specs.Command.{texts, EndedAtOnce, MayTouchFile};
+ghost use Rattle.kk_top.specs.Receiver.{received};
+ghost use Rattle.kk_top.specs.commands.Recv.{Order, OrdersReceiving, IsRefusedFor, Receives};
+
+use crate::receiver::receive_under;
+use crate::refusal::Refusal;
+use crate::report::refuse;
+use crate::words::{MAX_IDLE, MAX_MOST, asked_of};
+use kk_code::Ticket;
+use kk_frame::Limits;
+use kk_outside::{Gate, Sink};
+use kk_table::Logs;
+use kk_words::{Command, Name};
+use kk_workers::MAX_GATES;
+use std::alloc::Global;
+use std::thread::Threads;
+
+/// Receives from all gates, each with a worker in a thread of its own, decodes each generation, writes the file, and reports
+/// what became of gates and generations.
+///
+/// `words` are `recv`, the ticket, the addresses of the gates, and `--idle N` and `--most N` where the limits of a gate are
+/// given. The answer is the status, which the report tells too. All memory is taken before the first call on a gate or a
+/// sink. `logs` is empty before, and holds the logs of this run after 0, 3, 5 and 6.
+pub fn run_recv<R: Threads + Sync, K: Sink, P: Sink, G: Gate + Send>(
+    rt: &R,
+    alloc: Global,
+    words: &[String],
+    file: &mut K,
+    report: &mut P,
+    gates: &mut Vec<G>,
+    logs: &mut Vec<Logs>,
+) -> u8
+    requires few { length gates.old.items ≤ 16 }
+    requires no_logs { logs.old.items ≡ [] }
+    ensures receives { Receives (texts words.now) (changes G.told gates.old.items gates.new.items)
+        (change (K.told file.old) (K.told file.new)) (change (P.told report.old) (P.told report.new)) logs.new.items result }
+    ensures same_gates { length gates.new.items ≡ length gates.old.items }
+
+    // A refusal asks no gate and leaves no logs, and only a file that has bytes makes a call on its sink.
+    ensures unasked { EndedAtOnce result → gates.new.items ≡ gates.old.items }
+    ensures none_left { EndedAtOnce result → logs.new.items ≡ [] }
+    ensures unwritten { (MayTouchFile result → ⊥) → file.new ≡ file.old }
+    ensures no_bytes { (order : Order) → OrdersReceiving (texts words.now) order → (EndedAtOnce result → ⊥)
+        → received order.ticket order.limits (changes G.told gates.old.items gates.new.items) ≡ Some [] → file.new ≡ file.old }
+{
+    let (ticket, limits) = match receiver_named(alloc, words) {
+        Ok(named) => named,
+        Err(refusal) => return refuse(refusal, report),
+    };
+    match receive_under(rt, alloc, &ticket, limits, file, report, gates, logs) {
+        Ok(status) => status,
+        Err(_) => refuse(Refusal::Memory, report),
+    }
+}
+
+/// The ticket, and when a gate is given up: the ticket is looked at first, and then the ranges of `--idle`, of `--most` and of
+/// the number of addresses.
+fn receiver_named(alloc: Global, words: &[String]) -> Result<(Ticket, Limits), Refusal>
+    ensures named { IfOk result (λ named. (addresses : ℕ) × OrdersReceiving (texts words.now) (record { ticket = named.0; addresses = addresses; limits = named.1 })) }
+    ensures refused { IfErr result (IsRefusedFor (texts words.now)) }
+{
+    let asked = asked_of(alloc, words, Command::Recv)?;
+    let idle = asked.number(Name::Idle).unwrap();
+    let most = asked.number(Name::Most).unwrap();
+    let ticket = match Ticket::read(asked.text(0)) {
+        Ok(ticket) => ticket,
+        Err(fault) => return Err(Refusal::Ticket(fault)),
+    };
+    if idle < 1 || idle > MAX_IDLE {
+        return Err(Refusal::Range(Name::Idle));
+    }
+    if most < 1 || most > MAX_MOST {
+        return Err(Refusal::Range(Name::Most));
+    }
+    if asked.texts() > MAX_GATES + 1 {
+        return Err(Refusal::Listen);
+    }
+    let limits = Limits {
+        idle: idle as u32,
+        most: most as u32,
+    };
+    Ok((ticket, limits))
+}

@@ -1,0 +1,104 @@
+//! A receiver with several gates, under a ticket.
+ghost use Rattle.std.specs.Prelude.{◌≡◌, ◌≤◌, [], Some, length, vec_len, IfOk, OnOk, OnErr};
+ghost use Rattle.kk_outside.specs.Change.{change};
+ghost use Rattle.kk_workers.specs.Headline.{changes};
+ghost use Rattle.kk_top.specs.Command.{MayTouchFile};
+ghost use Rattle.kk_top.specs.Receiver.{received, is_fault, some_fault, after_gates, IsReceiver};
+ghost use Rattle.kk_top.specs.Status.{code_of};
+
+use crate::delivery::deliver;
+use crate::receiver_report::{Extent, tell_received};
+use crate::status::Status;
+use kk_code::Ticket;
+use kk_frame::{Ended, Limits};
+use kk_outside::{Alloc, Gate, Sink};
+use kk_table::Logs;
+use kk_workers::{Plan, Received, receive};
+use std::alloc::Global;
+use std::thread::Threads;
+
+/// Receives from all gates, writes the file where every generation decodes, reports what became of gates and generations,
+/// and leaves the logs. The answer is the status.
+///
+/// # Errors
+///
+/// [`Alloc`] where there is no memory, before the first call on a gate or a sink.
+pub(crate) fn receive_under<R: Threads + Sync, K: Sink, P: Sink, G: Gate + Send>(
+    rt: &R,
+    alloc: Global,
+    ticket: &Ticket,
+    limits: Limits,
+    file: &mut K,
+    report: &mut P,
+    gates: &mut Vec<G>,
+    logs: &mut Vec<Logs>,
+) -> Result<u8, Alloc>
+    requires few { length gates.old.items ≤ 16 }
+    requires idle { 1 ≤ limits.idle }
+    requires most { 1 ≤ limits.most }
+    requires no_logs { logs.old.items ≡ [] }
+    ensures receiver { IfOk result (IsReceiver ticket.now limits (changes G.told gates.old.items gates.new.items)
+        (change (K.told file.old) (K.told file.new)) (change (P.told report.old) (P.told report.new)) logs.new.items) }
+    ensures same_gates { OnOk result (length gates.new.items ≡ length gates.old.items) }
+    ensures unwritten { IfOk result (λ status. (MayTouchFile status → ⊥) → file.new ≡ file.old) }
+    ensures no_bytes { OnOk result (received ticket.now limits (changes G.told gates.old.items gates.new.items) ≡ Some [] → file.new ≡ file.old) }
+
+    // Without memory nothing was called.
+    ensures unasked { OnErr result (gates.new.items ≡ gates.old.items) }
+    ensures untouched { OnErr result ((file.new ≡ file.old) × (report.new ≡ report.old)) }
+    ensures none_left { OnErr result (logs.new.items ≡ []) }
+{
+    let mut bytes = room_of(alloc, ticket)?;
+    logs.reserve(1)?;
+    let plan = Plan { limits, goal: None };
+    let received = receive(rt, alloc, ticket, gates, &plan)?;
+    let extent = Extent {
+        gates: gates.len(),
+        generations: ticket.generations(),
+    };
+    let delivered = deliver(received.answers(), ticket, &mut bytes, file);
+    let status = status_after(delivered, &received, extent.gates);
+    let code = tell_received(status, &received, extent, report);
+    logs.push_reserved(received.into_logs());
+    Ok(code)
+}
+
+/// Room for the bytes of the file.
+fn room_of(alloc: Global, ticket: &Ticket) -> Result<Vec<u8>, Alloc>
+    ensures { IfOk result (λ bytes. vec_len bytes ≡ ticket.now.length) }
+{
+    let mut bytes = Vec::new(alloc);
+    bytes.resize(ticket.length() as usize, 0)?;
+    Ok(bytes)
+}
+
+/// The status, where the file was delivered so: a generation that doesn't decode has another one where a gate failed.
+fn status_after(delivered: Status, received: &Received, gates: usize) -> Status
+    requires gates { gates ≡ length received.now.gates }
+    ensures { code_of result ≡ after_gates (code_of delivered) (some_fault received.now.gates) }
+{
+    match delivered {
+        Status::NotDecoded if has_fault(received, gates) => Status::GateFailed,
+        _ => delivered,
+    }
+}
+
+/// Whether some gate ended by a fault.
+fn has_fault(received: &Received, gates: usize) -> bool
+    requires gates { gates ≡ length received.now.gates }
+    ensures { result ≡ some_fault received.now.gates }
+{
+    for i in 0..gates {
+        if is_fault(received.gate(i).ended) {
+            return true;
+        }
+    }
+    false
+}
+
+/// Whether a gate that ended so failed.
+fn is_fault(ended: Option<Ended>) -> bool
+    ensures { result ≡ is_fault ended }
+{
+    matches!(ended, Some(Ended::Fault))
+}
