@@ -15,14 +15,23 @@ trial=(unpack kk1:00000001:2:0000000000000003:1:1:0)
 
 usage() {
   cat << END
-usage: kk unpack [--most N] TICKET < CAPTURE > FILE
+usage: kk COMMAND WORDS..
 
-kk receives files sent by noncoherent random network coding, with the subspace code of Kötter and Kschischang.
+kk sends, relays and receives files by noncoherent random network coding, with the subspace code of Kötter and
+Kschischang. Each command writes a report to standard error, and ends with the status that the report tells.
 
-  kk unpack TICKET   decodes the capture of frames on standard input, writes the file to standard output and a report
-                     to standard error, and ends with the status that the report tells
-  kk --build         builds the program where there is none of these sources, and runs nothing
-  kk --help          prints this page, as do -h, help and --version. Each of these words stands alone
+  kk plan SESSION M MOD L K < FILE > TICKET          the ticket of a file under a code
+  kk pack TICKET < FILE > CAPTURE                    the frames of a file
+  kk unpack [--most N] TICKET < CAPTURE > FILE       the file of a capture of frames
+  kk send TICKET TARGET --seed HEX [--extra N] [--pack N] < FILE
+                                                     sends a file to an address, as 127.0.0.1:9000
+  kk relay TICKET TARGET LISTEN --seed HEX [--rate N] [--idle N] [--most N]
+                                                     sends combinations of the frames that come in
+  kk recv TICKET LISTEN.. [--idle N] [--most N] > FILE
+                                                     the file of the frames that come in at up to 16 addresses
+
+  kk --build   builds the program where there is none of these sources, and runs nothing
+  kk --help    prints this page, as do -h, help and --version. Each of these words stands alone
 
 Read on in $top
   README.md            what kk does, and what is proved of it
