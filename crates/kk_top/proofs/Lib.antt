@@ -5,8 +5,9 @@ pub mod Addressing
 pub mod Asking
 pub mod Counted
 pub mod Texts
+pub mod Statuses
 pub mod Reporting
-pub mod Promises
+pub mod Unpacks
 pub mod Plans
 pub mod Capturing
 pub mod TicketWords

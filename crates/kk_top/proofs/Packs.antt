@@ -23,10 +23,8 @@ use Rattle.kk_top.specs.Refusal.{status_of, refusal_of, refusal_text}
 use Rattle.kk_top.specs.Report.{concluded_text, IsConcluded}
 use Rattle.kk_top.specs.TicketWord.{NamesTicketFor}
 use Rattle.kk_top.specs.commands.Pack.{IsRefusedFor, frames_line, Packs}
+use Rattle.kk_top.proofs.Statuses.{IsStatusOf, not_through, through_told, sinks_failed}
 use Rattle.kk_top.proofs.TicketWords.{same_ticket_for, ticket_or_none}
-
-untouched : (status : ℕ) → (status ≡ 1) ⊎ ((status ≡ 2) ⊎ ((status ≡ 4) ⊎ ((status ≡ 8) ⊎ (status ≡ 9)))) → MayTouchFile status → ⊥
-untouched status is touched = grind arith
 
 -- the words name no ticket, or there was no memory
 pub packs_refused : (words : List (List ℕ)) (cause : Refusal) (status : ℕ) (source : SourceTold) (file : SinkTold) (report : Change SinkTold)
@@ -37,8 +35,8 @@ packs_refused words Words status source file report why is given = record {
   ticket_refused = λ _. (λ e. absurd (omega (arith, e, is)), λ none. absurd (why none.1.request none.1.asked));
   input_fault = λ can. (λ e. absurd (omega (arith, e, is)), λ rose. absurd (omega (arith, rose)));
   wrong_length = λ t named. absurd (why named.request named.asked);
-  output_fault = λ can can_report touched. absurd (untouched status (inl is) touched);
-  no_other_status = inl (inl is);
+  output_fault = λ can can_report touched. absurd (not_through 1 status refl is touched);
+  no_other_status = inl is;
   read_to_length = λ t named. absurd (why named.request named.asked);
   failed_within_length = λ t named. absurd (why named.request named.asked);
   remainder = λ t named. absurd (why named.request named.asked);
@@ -51,8 +49,8 @@ packs_refused words (Ticket fault) status source file report why is given = reco
   ticket_refused = λ _. (λ _. (fault, why), λ _. is);
   input_fault = λ can. (λ e. absurd (omega (arith, e, is)), λ rose. absurd (omega (arith, rose)));
   wrong_length = λ t named. absurd (ticket_or_none Pack words t fault named why);
-  output_fault = λ can can_report touched. absurd (untouched status (inr (inl is)) touched);
-  no_other_status = inl (inr (inl is));
+  output_fault = λ can can_report touched. absurd (not_through 2 status refl is touched);
+  no_other_status = inr (inl is);
   read_to_length = λ t named. absurd (ticket_or_none Pack words t fault named why);
   failed_within_length = λ t named. absurd (ticket_or_none Pack words t fault named why);
   remainder = λ t named. absurd (ticket_or_none Pack words t fault named why);
@@ -71,14 +69,14 @@ packs_refused words Memory status source file report why is given = record {
   ticket_refused = λ other. absurd (other is);
   input_fault = λ can. (λ e. absurd (omega (arith, e, is)), λ rose. absurd (omega (arith, rose)));
   wrong_length = λ t named other. absurd (other is);
-  output_fault = λ can can_report touched. absurd (untouched status (inr (inr (inr (inl is)))) touched);
-  no_other_status = inl (inr (inr is));
+  output_fault = λ can can_report touched. absurd (not_through 8 status refl is touched);
+  no_other_status = inr (inr (inr (inl is)));
   read_to_length = λ t named other. absurd (other is);
   failed_within_length = λ t named four. absurd (omega (arith, four, is));
   remainder = λ t named other. absurd (other is);
-  written = λ t named touched. absurd (untouched status (inr (inr (inr (inl is)))) touched);
+  written = λ t named touched. absurd (not_through 8 status refl is touched);
   refused = λ _. (Memory, tt, record { tells = is; given = given });
-  reported = λ t named touched. absurd (untouched status (inr (inr (inr (inl is)))) touched);
+  reported = λ t named touched. absurd (not_through 8 status refl is touched);
 }
 
 -- a read failed
@@ -90,14 +88,14 @@ packs_failed words t status source file report named is rose before given = reco
   ticket_refused = λ _. (λ e. absurd (omega (arith, e, is)), λ none. absurd (ticket_or_none Pack words t none.0 named none.1));
   input_fault = λ can. (λ _. rose can, λ _. is);
   wrong_length = λ s other _ four. absurd (four is);
-  output_fault = λ can can_report touched. absurd (untouched status (inr (inr (inl is))) touched);
-  no_other_status = inr (inl is);
+  output_fault = λ can can_report touched. absurd (not_through 4 status refl is touched);
+  no_other_status = inr (inr (inl is));
   read_to_length = λ s other _ four. absurd (four is);
   failed_within_length = λ s other _. subst (λ (u : TicketFields). FailsWithinLength u.length source) (same_ticket_for Pack words t s named other) before;
   remainder = λ s other _ four. absurd (four is);
-  written = λ s other touched. absurd (untouched status (inr (inr (inl is))) touched);
+  written = λ s other touched. absurd (not_through 4 status refl is touched);
   refused = λ _. (Input, (t, named, before), record { tells = is; given = given });
-  reported = λ s other touched. absurd (untouched status (inr (inr (inl is))) touched);
+  reported = λ s other touched. absurd (not_through 4 status refl is touched);
 }
 
 -- the source has another number of bytes
@@ -113,60 +111,39 @@ packs_wrong_length words t got more status source file report named is kept read
       ticket_refused = λ _. (λ e. absurd (omega (arith, e, is)), λ none. absurd (ticket_or_none Pack words t none.0 named none.1));
       input_fault = λ can. (λ e. absurd (omega (arith, e, is)), λ rose. absurd (kept can rose));
       wrong_length = λ s other _ _. (λ _. subst (λ (u : TicketFields). length (bytes_read source) ≡ u.length → ⊥) (same_ticket_for Pack words t s named other) other_length, λ _. is);
-      output_fault = λ can can_report touched. absurd (untouched status (inr (inr (inr (inr is)))) touched);
-      no_other_status = inr (inr (inl is));
+      output_fault = λ can can_report touched. absurd (not_through 9 status refl is touched);
+      no_other_status = inr (inr (inr (inr (inl is))));
       read_to_length = λ s other _ _. subst (λ (u : TicketFields). ReadsToLength u.length source) (same_ticket_for Pack words t s named other) read;
       failed_within_length = λ s other four. absurd (omega (arith, four, is));
       remainder = λ s other _ _. subst (λ (u : TicketFields). IfSome source.old.left (λ bytes. LeavesAfterLength u.length bytes source)) (same_ticket_for Pack words t s named other) left;
-      written = λ s other touched. absurd (untouched status (inr (inr (inr (inr is)))) touched);
+      written = λ s other touched. absurd (not_through 9 status refl is touched);
       refused = λ _. (Length got more, (t, named, read, wrong), record { tells = is; given = given });
-      reported = λ s other touched. absurd (untouched status (inr (inr (inr (inr is)))) touched);
+      reported = λ s other touched. absurd (not_through 9 status refl is touched);
     }
-
-touched_not : (status : ℕ) → MayTouchFile status → (status ≡ 1 → ⊥) × (status ≡ 2 → ⊥) × (status ≡ 4 → ⊥) × (status ≡ 9 → ⊥)
-touched_not status (inl zero_) = (λ e. omega (arith, e, zero_), λ e. omega (arith, e, zero_), λ e. omega (arith, e, zero_), λ e. omega (arith, e, zero_))
-touched_not status (inr five) = (λ e. omega (arith, e, five), λ e. omega (arith, e, five), λ e. omega (arith, e, five), λ e. omega (arith, e, five))
-
-told_touched : (told status : ℕ) → MayTouchFile told → (status ≡ told) ⊎ ((told ≡ 0) × (status ≡ 5)) → MayTouchFile status
-told_touched told status is (inl same) = subst MayTouchFile (sym same) is
-told_touched told status is (inr five) = inr five.1
 
 -- the capture went out
 pub packs_done : (words : List (List ℕ)) (t : TicketFields) (told status : ℕ) (source : Change SourceTold) (file report : Change SinkTold)
     → NamesTicketFor Pack words t → (CanCount source.old.faults → SourceFailed source → ⊥) → ReadsToLength t.length source
     → IfSome source.old.left (λ bytes. LeavesAfterLength t.length bytes source) → length (bytes_read source) ≡ t.length
     → MayTouchFile told → (CanCount file.old.faults → (told ≡ 5) ↔ SinkFailed file) → WasGiven (packed t (bytes_read source)) file
-    → WasGiven (concluded_text told (frames_line t (bytes_read source))) report → (status ≡ told) ⊎ ((told ≡ 0) × (status ≡ 5)) → (CanCount report.old.faults → told ≡ 0 → (status ≡ 5) ↔ SinkFailed report)
+    → WasGiven (concluded_text told (frames_line t (bytes_read source))) report → IsStatusOf told status → (CanCount report.old.faults → told ≡ 0 → (status ≡ 5) ↔ SinkFailed report)
     → Packs words source file report status
 packs_done words t told status source file report named kept read left whole tells five written given same report_five =
-    let touched = told_touched told status tells same in
-    let not = touched_not status touched in
+    let touched = through_told told status tells same in
     record {
-      words_refused = λ _. (λ e. absurd (not.0 e), λ none. absurd (none named.request named.asked));
-      ticket_refused = λ _. (λ e. absurd (not.1 e), λ none. absurd (ticket_or_none Pack words t none.0 named none.1));
-      input_fault = λ can. (λ e. absurd (not.2 e), λ rose. absurd (kept can rose));
-      wrong_length = λ s other _ _. (λ e. absurd (not.3 e), λ wrong. absurd (wrong (whole ∙ ap (λ (u : TicketFields). u.length) (same_ticket_for Pack words t s named other))));
-      output_fault = λ can can_report _. five_of can can_report;
-      no_other_status = inr (inr (inr touched));
+      words_refused = λ _. (λ e. absurd (not_through 1 status refl e touched), λ none. absurd (none named.request named.asked));
+      ticket_refused = λ _. (λ e. absurd (not_through 2 status refl e touched), λ none. absurd (ticket_or_none Pack words t none.0 named none.1));
+      input_fault = λ can. (λ e. absurd (not_through 4 status refl e touched), λ rose. absurd (kept can rose));
+      wrong_length = λ s other _ _. (λ e. absurd (not_through 9 status refl e touched), λ wrong. absurd (wrong (whole ∙ ap (λ (u : TicketFields). u.length) (same_ticket_for Pack words t s named other))));
+      output_fault = λ can can_report _. sinks_failed told status file report tells same five report_five can can_report;
+      no_other_status = inr (inr (inr (inr (inr touched))));
       read_to_length = λ s other _ _. subst (λ (u : TicketFields). ReadsToLength u.length source) (same_ticket_for Pack words t s named other) read;
-      failed_within_length = λ s other e. absurd (not.2 e);
+      failed_within_length = λ s other e. absurd (not_through 4 status refl e touched);
       remainder = λ s other _ _. subst (λ (u : TicketFields). IfSome source.old.left (λ bytes. LeavesAfterLength u.length bytes source)) (same_ticket_for Pack words t s named other) left;
       written = λ s other _. subst (λ u. WasGiven (packed u (bytes_read source)) file) (same_ticket_for Pack words t s named other) written;
       refused = λ untouched_. absurd (untouched_ touched);
       reported = λ s other _. subst (λ u. IsConcluded (frames_line u (bytes_read source)) status file report) (same_ticket_for Pack words t s named other) (record { told = told; same_or_five = same; five = five; given = given });
     }
-  where
-    five_of : CanCount file.old.faults → CanCount report.old.faults → (status ≡ 5) ↔ (SinkFailed file ⊎ SinkFailed report)
-    five_of can can_report = elim tells [
-      | inl zero_ ↦
-          let kept_file : SinkFailed file → ⊥ = λ failed. omega (arith, zero_, (five can).1 failed) in (
-            λ e. inr ((report_five can_report zero_).0 e),
-            λ failed. elim failed [ inl file_failed ↦ absurd (kept_file file_failed) | inr report_failed ↦ (report_five can_report zero_).1 report_failed ],
-          )
-      | inr is_five ↦
-          let is : status ≡ 5 = elim same [ inl as_told ↦ as_told ∙ is_five | inr zero_ ↦ zero_.1 ] in
-          (λ _. inl ((five can).0 is_five), λ _. is)
-    ]
 
 -- ---- by what the reading of the file answers
 
@@ -200,7 +177,7 @@ was_read e = cc
 pub packs_read : (words : List (List ℕ)) (t : TicketFields) (len : ℕ) (told : Status) (status : ℕ) (bytes : List ℕ) (source : Change SourceTold) (file report : Change SinkTold)
     → NamesTicketFor Pack words t → len ≡ t.length → IsReading len source (Ok tt) → length (bytes_read source) ≡ len → bytes ≡ bytes_read source
     → (told ≡ Done) ⊎ (told ≡ OutputFault) → (CanCount file.old.faults → (told ≡ OutputFault) ↔ SinkFailed file) → WasGiven (packed t bytes) file
-    → WasGiven (concluded_text (code_of told) (frames_line t bytes)) report → (status ≡ code_of told) ⊎ ((code_of told ≡ 0) × (status ≡ 5)) → (CanCount report.old.faults → code_of told ≡ 0 → (status ≡ 5) ↔ SinkFailed report)
+    → WasGiven (concluded_text (code_of told) (frames_line t bytes)) report → IsStatusOf (code_of told) status → (CanCount report.old.faults → code_of told ≡ 0 → (status ≡ 5) ↔ SinkFailed report)
     → Packs words source file report status
 packs_read words t len told status bytes source file report named same reading whole are tells five written given outcome report_five =
     packs_done words t (code_of told) status source file report named (λ can rose. was_read ((reading.failed can).1 rose)) (subst (λ n. ReadsToLength n source) same (reading.read was_read))

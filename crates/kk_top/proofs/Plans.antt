@@ -1,12 +1,11 @@
 -- What `plan` promises, at each of its ends.
 use Rattle.std.proofs.Common.{◌≡◌, ◌⊎◌, inl, inr, ℕ, zero, suc, ◌*◌, ◌/◌, ◌+◌, ◌-◌, ◌<◌, ◌≤◌, min, List, [], ◌∷◌, length, take, Option, None, Ok, Err, append_assoc, ◌++◌, refl, ap, sym, subst, ◌∙◌, arith}
-use Rattle.std.specs.Prelude.{◌↔◌, Some, IfSome, codes, slice_get, is_some}
-use Rattle.std.proofs.Math.Nat.{lt_of_not-le, div-le_of_le-mul}
+use Rattle.std.specs.Prelude.{◌↔◌, Some, IfSome, codes, slice_get}
+use Rattle.std.proofs.Math.Nat.{div-le_of_le-mul}
 use Rattle.std.specs.List.{flat_map}
-use Rattle.std.proofs.lemmas.Option.{same_Some}
-use Rattle.std.proofs.lemmas.List.{append-nil, length-take-le, take_all}
+use Rattle.std.proofs.lemmas.Option.{same_Some, slice_get_within, get_or_from_slice_get}
+use Rattle.std.proofs.lemmas.List.{append-nil, length-take-le, take_all, take_more}
 use Rattle.std.proofs.lemmas.Grind.{flat_map-append}
-use Rattle.std.proofs.lemmas.Bool.{false≢true}
 use Rattle.kk_outside.specs.Causes.{CanCount}
 use Rattle.kk_outside.specs.Change.{Change, change}
 use Rattle.kk_outside.specs.Source.{AtEnd, Failed, SourceTold, SourceFailed, bytes_read, FillsFrom}
@@ -27,6 +26,7 @@ use Rattle.kk_top.specs.Report.{concluded_text}
 use Rattle.kk_top.specs.Words.{IsRequestFor}
 use Rattle.kk_top.specs.commands.Plan.{NamesCode, NamesNoCode, IsRefusedFor, IsTooLong, IsCauseOf, ReadsToEnd, StopsAtLimit, FailsBeforeEnd, IsFirstTooLong, planned, plan_text, Plans}
 use Rattle.kk_top.proofs.Asking.{no_fault}
+use Rattle.kk_top.proofs.Statuses.{IsStatusOf, not_through, through_told, sinks_failed}
 
 -- words ask for one thing
 same_asked : (words : List (List ℕ)) (one other : Request) → IsRequestFor words Plan one → IsRequestFor words Plan other → one ≡ other
@@ -47,9 +47,6 @@ not_refused : (words : List (List ℕ)) (t : TicketFields) (source : Change Sour
 not_refused words t source fault named few (inl none) = code_or_none words t fault named none
 not_refused words t source fault named few (inr long) = few (subst (λ s. IsTooLong s (bytes_read source)) (same_code words long.0 t long.1 named) long.2)
 
-untouched : (status : ℕ) → (status ≡ 1) ⊎ ((status ≡ 2) ⊎ ((status ≡ 4) ⊎ (status ≡ 8))) → MayTouchFile status → ⊥
-untouched status is touched = grind arith
-
 -- the words name no code, or there was no memory
 pub plans_refused : (words : List (List ℕ)) (cause : Refusal) (status : ℕ) (source : SourceTold) (file : SinkTold) (report : Change SinkTold)
     → IsRefusedFor words cause → status ≡ status_of cause → WasGiven (refusal_text cause) report
@@ -58,7 +55,7 @@ plans_refused words Words status source file report why is given = record {
   words_refused = λ _. (λ _. why, λ _. is);
   ticket_refused = λ _. (λ e. absurd (omega (arith, e, is)), λ caused. absurd (elim caused.1 [ inl none ↦ why none.request none.asked | inr long ↦ why long.1.request long.1.asked ]));
   input_fault = λ can. (λ e. absurd (omega (arith, e, is)), λ rose. absurd (omega (arith, rose)));
-  output_fault = λ can can_report touched. absurd (untouched status (inl is) touched);
+  output_fault = λ can can_report touched. absurd (not_through 1 status refl is touched);
   no_other_status = inl is;
   read_to_end = λ t named touched. absurd (why named.request named.asked);
   stopped = λ t named two. absurd (why named.request named.asked);
@@ -71,7 +68,7 @@ plans_refused words (Ticket fault) status source file report why is given = reco
   words_refused = λ _. (λ e. absurd (omega (arith, e, is)), λ none. absurd (none why.request why.asked));
   ticket_refused = λ _. (λ _. (fault, inl why), λ _. is);
   input_fault = λ can. (λ e. absurd (omega (arith, e, is)), λ rose. absurd (omega (arith, rose)));
-  output_fault = λ can can_report touched. absurd (untouched status (inr (inl is)) touched);
+  output_fault = λ can can_report touched. absurd (not_through 2 status refl is touched);
   no_other_status = inr (inl is);
   read_to_end = λ t named touched. absurd (code_or_none words t fault named why);
   stopped = λ t named two. absurd (code_or_none words t fault named why);
@@ -90,14 +87,14 @@ plans_refused words Memory status source file report why is given = record {
   words_refused = λ other. absurd (other is);
   ticket_refused = λ other. absurd (other is);
   input_fault = λ can. (λ e. absurd (omega (arith, e, is)), λ rose. absurd (omega (arith, rose)));
-  output_fault = λ can can_report touched. absurd (untouched status (inr (inr (inr is))) touched);
+  output_fault = λ can can_report touched. absurd (not_through 8 status refl is touched);
   no_other_status = inr (inr (inr (inl is)));
-  read_to_end = λ t named touched. absurd (untouched status (inr (inr (inr is))) touched);
+  read_to_end = λ t named touched. absurd (not_through 8 status refl is touched);
   stopped = λ t named two. absurd (omega (arith, two, is));
   failed_before_end = λ t named four. absurd (omega (arith, four, is));
-  written = λ t named touched. absurd (untouched status (inr (inr (inr is))) touched);
+  written = λ t named touched. absurd (not_through 8 status refl is touched);
   refused = λ _. (Memory, tt, record { tells = is; given = given });
-  reported = λ t named touched. absurd (untouched status (inr (inr (inr is))) touched);
+  reported = λ t named touched. absurd (not_through 8 status refl is touched);
 }
 
 -- a read failed
@@ -108,14 +105,14 @@ plans_failed words t status source file report named is rose before given = reco
   words_refused = λ _. (λ e. absurd (omega (arith, e, is)), λ none. absurd (none named.request named.asked));
   ticket_refused = λ _. (λ e. absurd (omega (arith, e, is)), λ caused. absurd (not_refused words t source caused.0 named before.few caused.1));
   input_fault = λ can. (λ _. rose can, λ _. is);
-  output_fault = λ can can_report touched. absurd (untouched status (inr (inr (inl is))) touched);
+  output_fault = λ can can_report touched. absurd (not_through 4 status refl is touched);
   no_other_status = inr (inr (inl is));
-  read_to_end = λ s other touched. absurd (untouched status (inr (inr (inl is))) touched);
+  read_to_end = λ s other touched. absurd (not_through 4 status refl is touched);
   stopped = λ s other two. absurd (omega (arith, two, is));
   failed_before_end = λ s other _. subst (λ u. FailsBeforeEnd u source) (same_code words t s named other) before;
-  written = λ s other touched. absurd (untouched status (inr (inr (inl is))) touched);
+  written = λ s other touched. absurd (not_through 4 status refl is touched);
   refused = λ _. (Input, (t, named, before), record { tells = is; given = given });
-  reported = λ s other touched. absurd (untouched status (inr (inr (inl is))) touched);
+  reported = λ s other touched. absurd (not_through 4 status refl is touched);
 }
 
 -- the source has too many bytes
@@ -127,74 +124,46 @@ plans_stopped words t status fault source file report named is kept stops told g
   words_refused = λ _. (λ e. absurd (omega (arith, e, is)), λ none. absurd (none named.request named.asked));
   ticket_refused = λ _. (λ _. (fault, inr (t, named, stops.many, told)), λ _. is);
   input_fault = λ can. (λ e. absurd (omega (arith, e, is)), λ rose. absurd (omega (arith, rose, kept)));
-  output_fault = λ can can_report touched. absurd (untouched status (inr (inl is)) touched);
+  output_fault = λ can can_report touched. absurd (not_through 2 status refl is touched);
   no_other_status = inr (inl is);
-  read_to_end = λ s other touched. absurd (untouched status (inr (inl is)) touched);
+  read_to_end = λ s other touched. absurd (not_through 2 status refl is touched);
   stopped = λ s other _. subst (λ u. StopsAtLimit u source) (same_code words t s named other) stops;
   failed_before_end = λ s other four. absurd (omega (arith, four, is));
-  written = λ s other touched. absurd (untouched status (inr (inl is)) touched);
+  written = λ s other touched. absurd (not_through 2 status refl is touched);
   refused = λ _. (Ticket fault, inr (t, named, stops.many, told), record { tells = is; given = given });
-  reported = λ s other touched. absurd (untouched status (inr (inl is)) touched);
+  reported = λ s other touched. absurd (not_through 2 status refl is touched);
 }
-
-touched_not : (status : ℕ) → MayTouchFile status → (status ≡ 1 → ⊥) × (status ≡ 2 → ⊥) × (status ≡ 4 → ⊥)
-touched_not status (inl zero_) = (λ e. omega (arith, e, zero_), λ e. omega (arith, e, zero_), λ e. omega (arith, e, zero_))
-touched_not status (inr five) = (λ e. omega (arith, e, five), λ e. omega (arith, e, five), λ e. omega (arith, e, five))
-
-told_touched : (told status : ℕ) → MayTouchFile told → (status ≡ told) ⊎ ((told ≡ 0) × (status ≡ 5)) → MayTouchFile status
-told_touched told status is (inl same) = subst MayTouchFile (sym same) is
-told_touched told status is (inr five) = inr five.1
 
 -- the ticket went out
 pub plans_done : (words : List (List ℕ)) (t : TicketFields) (told status : ℕ) (source : Change SourceTold) (file report : Change SinkTold)
     → NamesCode words t → source.new.faults ≡ source.old.faults → ReadsToEnd t source
     → MayTouchFile told → (CanCount file.old.faults → (told ≡ 5) ↔ SinkFailed file) → WasGiven (planned t (bytes_read source)) file
-    → WasGiven (concluded_text told []) report → (status ≡ told) ⊎ ((told ≡ 0) × (status ≡ 5)) → (CanCount report.old.faults → told ≡ 0 → (status ≡ 5) ↔ SinkFailed report)
+    → WasGiven (concluded_text told []) report → IsStatusOf told status → (CanCount report.old.faults → told ≡ 0 → (status ≡ 5) ↔ SinkFailed report)
     → Plans words source file report status
 plans_done words t told status source file report named kept ends tells five written given same report_five =
-    let touched = told_touched told status tells same in
-    let not = touched_not status touched in
+    let touched = through_told told status tells same in
     record {
-      words_refused = λ _. (λ e. absurd (not.0 e), λ none. absurd (none named.request named.asked));
-      ticket_refused = λ _. (λ e. absurd (not.1 e), λ caused. absurd (not_refused words t source caused.0 named ends.few caused.1));
-      input_fault = λ can. (λ e. absurd (not.2 e), λ rose. absurd (omega (arith, rose, kept)));
-      output_fault = λ can can_report _. five_of can can_report;
+      words_refused = λ _. (λ e. absurd (not_through 1 status refl e touched), λ none. absurd (none named.request named.asked));
+      ticket_refused = λ _. (λ e. absurd (not_through 2 status refl e touched), λ caused. absurd (not_refused words t source caused.0 named ends.few caused.1));
+      input_fault = λ can. (λ e. absurd (not_through 4 status refl e touched), λ rose. absurd (omega (arith, rose, kept)));
+      output_fault = λ can can_report _. sinks_failed told status file report tells same five report_five can can_report;
       no_other_status = inr (inr (inr (inr touched)));
       read_to_end = λ s other _. subst (λ u. ReadsToEnd u source) (same_code words t s named other) ends;
-      stopped = λ s other e. absurd (not.1 e);
-      failed_before_end = λ s other e. absurd (not.2 e);
+      stopped = λ s other e. absurd (not_through 2 status refl e touched);
+      failed_before_end = λ s other e. absurd (not_through 4 status refl e touched);
       written = λ s other _. subst (λ u. WasGiven (planned u (bytes_read source)) file) (same_code words t s named other) written;
       refused = λ untouched_. absurd (untouched_ touched);
       reported = λ s other _. record { told = told; same_or_five = same; five = five; given = given };
     }
-  where
-    five_of : CanCount file.old.faults → CanCount report.old.faults → (status ≡ 5) ↔ (SinkFailed file ⊎ SinkFailed report)
-    five_of can can_report = elim tells [
-      | inl zero_ ↦
-          let kept_file : SinkFailed file → ⊥ = λ failed. omega (arith, zero_, (five can).1 failed) in (
-            λ e. inr ((report_five can_report zero_).0 e),
-            λ failed. elim failed [ inl file_failed ↦ absurd (kept_file file_failed) | inr report_failed ↦ (report_five can_report zero_).1 report_failed ],
-          )
-      | inr is_five ↦
-          let is : status ≡ 5 = elim same [ inl as_told ↦ as_told ∙ is_five | inr zero_ ↦ zero_.1 ] in
-          (λ _. inl ((five can).0 is_five), λ _. is)
-    ]
 
 -- ---- the text of a plan's words
-
-take_more : {X : Type 0} (xs : List X) (i : ℕ) (x : X) → slice_get xs i ≡ Some x → take (suc i) xs ≡ take i xs ++ x ∷ []
-take_more [] i x is = absurd (false≢true (ap is_some is))
-take_more (y ∷ xs) zero x is = ap (λ l. l ∷ []) (same_Some _ _ is)
-take_more (y ∷ xs) (suc i) x is = ap (λ l. y ∷ l) (take_more xs i x is)
 
 abbrev part : List ℕ → List ℕ
 part word = codes ":" ++ word
 
 joined_word : (words : List (List ℕ)) (i : ℕ) (word : List ℕ) → slice_get words i ≡ Some word → flat_map part (take (i + 1) words) ≡ flat_map part (take i words) ++ part word
 joined_word words i word is =
-    let one_more : i + 1 ≡ suc i = omega arith in
-    ap (λ n. flat_map part (take n words)) one_more
-    ∙ ap (flat_map part) (take_more words i word is)
+    ap (flat_map part) (take_more words i word (slice_get_within words i word is) ∙ ap (λ last. take i words ++ last ∷ []) (get_or_from_slice_get words i word word is))
     ∙ flat_map-append part (take i words) (word ∷ [])
     ∙ ap (λ l. flat_map part (take i words) ++ l) (append-nil (part word))
 
@@ -204,12 +173,6 @@ joined_more words i word before is at =
     append_assoc before (codes ":") word ∙ ap (λ l. l ++ part word) is ∙ append_assoc (codes "kk1") (flat_map part (take i words)) (part word) ∙ ap (λ l. codes "kk1" ++ l) (sym (joined_word words i word at))
 
 -- ---- the reads of a plan: into room for the longest file and one byte more
-
-pub at_most : {a b : ℕ} → (a < b → ⊥) → b ≤ a
-at_most {a} {b} not = let less : b < suc a = lt_of_not-le not in omega (arith, less)
-
-same_number : {a b : ℕ} → a ≤ b → (a < b → ⊥) → a ≡ b
-same_number {a} {b} most not = omega (arith, most, at_most not)
 
 pub plan_failed : {E : Type 0} (t : TicketFields) (source : Change SourceTold) (e : E) (buf : List ℕ) → IsFirstTooLong t (length buf) → FillsFrom source (Err e) buf → FailsBeforeEnd t source
 plan_failed t source e buf room fills =
@@ -248,7 +211,8 @@ no_bytes t = none (message_bits t.code)
 
 pub plan_stopped : {E : Type 0} (t : TicketFields) (n : ℕ) (source : Change SourceTold) (buf : List ℕ) → IsFirstTooLong t (length buf) → FillsFrom {E = E} source (Ok n) buf → MAX_GENERATIONS < generations (for_length t n) → StopsAtLimit t source × (length (bytes_read source) ≡ n)
 plan_stopped t n source buf room fills many =
-    let full : n ≡ length buf = same_number fills.bounded (λ short. omega (arith, (room n).0 short, many)) in
+    let whole : n < length buf → ⊥ = λ short. omega (arith, (room n).0 short, many) in
+    let full : n ≡ length buf = omega (arith, fills.bounded) in
     let some : 0 < length buf = (room 0).1 (no_bytes t) in
     let took = filled source n buf fills full in
     let read : bytes_read source ≡ buf = bytes_read-took buf [] source took refl in

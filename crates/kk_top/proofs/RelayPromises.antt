@@ -13,10 +13,11 @@ use Rattle.kk_words.specs.declared.argument.Name.TheVariants.{Rate, Idle, Most}
 use Rattle.kk_words.specs.Request.{Request, number_of}
 use Rattle.kk_top.specs.declared.refusal.Refusal.{Refusal}
 use Rattle.kk_top.specs.declared.refusal.Refusal.TheVariants.{Words, Ticket, Seed, Range, Listen, Input, Length, Outlet, Memory}
+use Rattle.kk_top.specs.Command.{EndedAtOnce, RanThrough}
 use Rattle.kk_top.specs.Refusal.{status_of, refusal_text}
 use Rattle.kk_top.specs.Seed.{seed_of}
 use Rattle.kk_top.specs.TicketWord.{NamesTicketFor}
-use Rattle.kk_top.specs.commands.Relay.{Order, AsksToRelay, broken_range, OrdersRelaying, BreaksRange, IsRefusedFor, IsCauseOf, IsRelayed, EndedBefore, FirstIs, RelaysBy, Relays}
+use Rattle.kk_top.specs.commands.Relay.{Order, AsksToRelay, broken_range, OrdersRelaying, BreaksRange, IsRefusedFor, IsCauseOf, FirstIs, RelaysBy, Relays}
 use Rattle.kk_top.proofs.TicketWords.{same_request_for, ticket_or_none}
 
 -- words ask to relay by one order
@@ -118,7 +119,7 @@ relays_unheard words order status gates report outlet orders none is given = rec
 same_gate : (a b : Change GateTold) → a.old ≡ b.old → a.new ≡ b.new → a ≡ b
 same_gate a b old new = λ i. change (old i) (new i)
 
-ran_before : (status : ℕ) → (status ≡ 4) ⊎ ((status ≡ 7) ⊎ IsRelayed status) → EndedBefore status → ⊥
+ran_before : (status : ℕ) → (status ≡ 4) ⊎ ((status ≡ 7) ⊎ RanThrough status) → EndedAtOnce status → ⊥
 ran_before status is before = grind arith
 
 pub relays_ran : (words : List (List ℕ)) (order : Order) (status : ℕ) (gates : Change (List GateTold)) (gate : Change GateTold) (report : Change SinkTold) (outlet : Change OutletTold)

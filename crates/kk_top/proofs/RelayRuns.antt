@@ -1,5 +1,5 @@
 -- What a run of `relay` comes to.
-use Rattle.std.proofs.Common.{◌≡◌, ◌⊎◌, ℕ, ◌<◌, ◌++◌, inl, inr, List, length, Option, Some, None, ap, subst, ◌∙◌, arith}
+use Rattle.std.proofs.Common.{◌≡◌, ◌⊎◌, ℕ, ◌<◌, ◌++◌, inl, inr, List, length, Option, Some, None, refl, ap, subst, ◌∙◌, arith}
 use Rattle.std.specs.Prelude.{◌↔◌, IfSome, codes, sum_by}
 use Rattle.std.specs.Fmt.{decimal}
 use Rattle.rand_core.specs.Stream.{Stream}
@@ -17,10 +17,12 @@ use Rattle.kk_relay.specs.Progress.{AsksUpToStop, StopsThere, IsCutShort}
 use Rattle.kk_relay.specs.Relaying.{relayed, relay_list}
 use Rattle.kk_relay.specs.RelayState.{relay_after, rank}
 use Rattle.kk_top.specs.declared.refusal.Refusal.TheVariants.{Input, Outlet}
+use Rattle.kk_top.specs.Command.{RanThrough}
 use Rattle.kk_top.specs.Refusal.{refusal_text}
 use Rattle.kk_top.specs.Report.{gate_line, concluded_text}
 use Rattle.kk_top.specs.Seed.{stream_with}
-use Rattle.kk_top.specs.commands.Relay.{Order, ordered_list, relay_lines, frames_taken, IsRelayed, RelaysBy}
+use Rattle.kk_top.specs.commands.Relay.{Order, ordered_list, relay_lines, frames_taken, RelaysBy}
+use Rattle.kk_top.proofs.Statuses.{not_through}
 
 rose_below : (old new : ℕ) → CanCount old → Rose old new → old < new
 rose_below old new can rose = omega (arith, can, rose)
@@ -44,29 +46,23 @@ pub relays_done : (order : Order) (gate : Change GateTold) (report : Change Sink
     → gate.new.faults ≡ gate.old.faults → outlet.new.faults ≡ outlet.old.faults
     → AsksUpToStop order.ticket order.limits gate → StopsThere order.ticket order.limits gate
     → outlet.new.sent ≡ append_datagrams outlet.old.sent (ordered_list order (events_told gate))
-    → IsRelayed status → (CanCount report.old.faults → (status ≡ 5) ↔ SinkFailed report)
+    → RanThrough status → (CanCount report.old.faults → (status ≡ 5) ↔ SinkFailed report)
     → WasGiven (concluded_text 0 (relay_lines order (events_told gate))) report
     → RelaysBy order gate report outlet status
 relays_done order gate report outlet status gate_kept outlet_kept asked stop sent is five given = record {
-  input_fault = λ can. (λ four. absurd (other four), λ rose. absurd (omega (arith, rose, gate_kept)));
-  outlet_fault = λ can. (λ seven. absurd (none seven), λ rose. absurd (omega (arith, rose, outlet_kept)));
+  input_fault = λ can. (λ four. absurd (not_through 4 status refl four is), λ rose. absurd (omega (arith, rose, gate_kept)));
+  outlet_fault = λ can. (λ seven. absurd (not_through 7 status refl seven is), λ rose. absurd (omega (arith, rose, outlet_kept)));
   output_fault = λ can done. five can;
   no_other_status = inr (inr is);
   asked = asked;
   stop = λ _. stop;
   sent = λ _. sent;
-  cut_short = λ seven. absurd (none seven);
-  cut_short_of_all = λ seven. absurd (none seven);
-  gate_refused = λ four. absurd (other four);
-  outlet_refused = λ seven. absurd (none seven);
+  cut_short = λ seven. absurd (not_through 7 status refl seven is);
+  cut_short_of_all = λ seven. absurd (not_through 7 status refl seven is);
+  gate_refused = λ four. absurd (not_through 4 status refl four is);
+  outlet_refused = λ seven. absurd (not_through 7 status refl seven is);
   reported = λ _. given;
 }
-  where
-    other : status ≡ 4 → ⊥
-    other four = elim is [ inl zero_ ↦ omega (arith, four, zero_) | inr five_ ↦ omega (arith, four, five_) ]
-
-    none : status ≡ 7 → ⊥
-    none seven = elim is [ inl zero_ ↦ omega (arith, seven, zero_) | inr five_ ↦ omega (arith, seven, five_) ]
 
 -- the gate failed
 pub relays_gate_failed : (order : Order) (gate : Change GateTold) (report : Change SinkTold) (outlet : Change OutletTold) (status : ℕ)
@@ -78,7 +74,7 @@ pub relays_gate_failed : (order : Order) (gate : Change GateTold) (report : Chan
 relays_gate_failed order gate report outlet status rose outlet_kept asked stop sent is given = record {
   input_fault = λ can. (λ _. rose_below gate.old.faults gate.new.faults can rose, λ _. is);
   outlet_fault = λ can. (λ seven. absurd (omega (arith, seven, is)), λ fell. absurd (omega (arith, fell, outlet_kept)));
-  output_fault = λ can done. absurd (elim done [ inl zero_ ↦ omega (arith, is, zero_) | inr five_ ↦ omega (arith, is, five_) ]);
+  output_fault = λ can done. absurd (not_through 4 status refl is done);
   no_other_status = inl is;
   asked = asked;
   stop = λ _. stop;
@@ -87,7 +83,7 @@ relays_gate_failed order gate report outlet status rose outlet_kept asked stop s
   cut_short_of_all = λ seven. absurd (omega (arith, seven, is));
   gate_refused = λ _. record { tells = is; given = given };
   outlet_refused = λ seven. absurd (omega (arith, seven, is));
-  reported = λ done. absurd (elim done [ inl zero_ ↦ omega (arith, is, zero_) | inr five_ ↦ omega (arith, is, five_) ]);
+  reported = λ done. absurd (not_through 4 status refl is done);
 }
 
 -- the outlet failed
@@ -100,7 +96,7 @@ pub relays_outlet_failed : (order : Order) (gate : Change GateTold) (report : Ch
 relays_outlet_failed order gate report outlet status gate_kept rose asked cut cut_all is given = record {
   input_fault = λ can. (λ four. absurd (omega (arith, four, is)), λ fell. absurd (omega (arith, fell, gate_kept)));
   outlet_fault = λ can. (λ _. rose_below outlet.old.faults outlet.new.faults can rose, λ _. is);
-  output_fault = λ can done. absurd (elim done [ inl zero_ ↦ omega (arith, is, zero_) | inr five_ ↦ omega (arith, is, five_) ]);
+  output_fault = λ can done. absurd (not_through 7 status refl is done);
   no_other_status = inr (inl is);
   asked = asked;
   stop = λ other. absurd (other is);
@@ -109,15 +105,10 @@ relays_outlet_failed order gate report outlet status gate_kept rose asked cut cu
   cut_short_of_all = λ _. cut_all;
   gate_refused = λ four. absurd (omega (arith, four, is));
   outlet_refused = λ _. record { tells = is; given = given };
-  reported = λ done. absurd (elim done [ inl zero_ ↦ omega (arith, is, zero_) | inr five_ ↦ omega (arith, is, five_) ]);
+  reported = λ done. absurd (not_through 7 status refl is done);
 }
 
 -- what holds of a list holds of the same one, in each case
 pub cut_all_by : (order : Order) (words : Stream) (outlet : Change OutletTold) (left : Option (List Event)) → words ≡ stream_with order.seed → IfSome left (λ events. IsCutShort outlet (relay_list order.ticket order.limits order.rate (word_at words) events)) → IfSome left (λ events. IsCutShort outlet (ordered_list order events))
 cut_all_by order words outlet None are cut = tt
 cut_all_by order words outlet (Some events) are cut = subst (IsCutShort outlet) (list_by order words events are) cut
-
--- the status of a report that tells 0
-pub relayed_so : {A : Type 0} (status : ℕ) → (status ≡ 0) ⊎ (A × (status ≡ 5)) → IsRelayed status
-relayed_so status (inl zero_) = inl zero_
-relayed_so status (inr five_) = inr five_.1

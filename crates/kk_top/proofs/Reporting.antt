@@ -16,6 +16,8 @@ use Rattle.kk_top.specs.Answers.{frozen, answers, file_of, outcomes_of, totals_o
 use Rattle.kk_top.specs.Command.{MayTouchFile}
 use Rattle.kk_top.specs.Report.{status_line, count_line, gate_line, gate_lines_from, generation_lines, inserts_line, unfrozen_totals, received_lines, outcome, outcomes, outcome_lines, outcome_report}
 use Rattle.kk_top.proofs.Counted.{rank_is, ranks-spanned}
+pub use Rattle.kk_top.proofs.Statuses.{IsStatusOf}
+use Rattle.kk_top.proofs.Statuses.{at_three, told_through, decoded_or_through, four_alone}
 use Rattle.kk_top.specs.Delivery.{IsDelivered}
 use Rattle.kk_top.specs.Spaces.{AreSpanned, AreReceived, no_space}
 use Rattle.kk_top.specs.commands.Unpack.{vectors_of, counts_of, unpacked, ReadsUpToStop, FailsBeforeStop, LeavesRemainder, LeavesMore, report_of, IsReported}
@@ -79,30 +81,6 @@ pub one_each : (t : TicketFields) (found : List (Option (List ℕ))) (vectors : 
 one_each t found vectors answered =
     ap length answered ∙ length-map-range_with_len (λ g. answer t.code (frozen vectors g)) 0 (generations t)
 
--- ---- the status of a run, by the one that its report tells
-
--- the status, where the report told this one
-abbrev pub IsStatusOf : ℕ → ℕ → Type 0
-IsStatusOf told status = (status ≡ told) ⊎ ((told ≡ 0) × (status ≡ 5))
-
-at_three : (told status : ℕ) → IsStatusOf told status → (status ≡ 3 → told ≡ 3) × (told ≡ 3 → status ≡ 3)
-at_three told status (inl same) = (λ e. sym same ∙ e, λ e. same ∙ e)
-at_three told status (inr five) = (λ e. absurd (omega (arith, e, five.1)), λ e. absurd (omega (arith, e, five.0)))
-
-at_four : (told status : ℕ) → IsStatusOf told status → (status ≡ 4 → told ≡ 4) × (told ≡ 4 → status ≡ 4)
-at_four told status (inl same) = (λ e. sym same ∙ e, λ e. same ∙ e)
-at_four told status (inr five) = (λ e. absurd (omega (arith, e, five.1)), λ e. absurd (omega (arith, e, five.0)))
-
-not_four : (told : ℕ) → (told ≡ 3) ⊎ MayTouchFile told → told ≡ 4 → ⊥
-not_four told (inl three) e = omega (arith, three, e)
-not_four told (inr (inl zero_)) e = omega (arith, zero_, e)
-not_four told (inr (inr five)) e = omega (arith, five, e)
-
-touched_back : (told status : ℕ) → IsStatusOf told status → MayTouchFile status → MayTouchFile told
-touched_back told status (inl same) (inl zero_) = inl (sym same ∙ zero_)
-touched_back told status (inl same) (inr five) = inr (sym same ∙ five)
-touched_back told status (inr five) is = inl five.0
-
 -- ---- the run as a whole
 
 -- the file is that of the data frames
@@ -124,7 +102,7 @@ pub record IsRun (t : TicketFields) (most status : ℕ) (source : Change SourceT
 pub IsRun-received : (t : TicketFields) (most told status : ℕ) (source : Change SourceTold) (file report : Change SinkTold) (counted : GateCount) (spaces : List Space) (found : List (Option (List ℕ))) → AreReceived t most source counted spaces → found ≡ answers t (vectors_of t most (bytes_read source)) → IsDelivered (file_of t found) told file → WasGiven (outcome_report told counted spaces found) report → IsStatusOf told status → IsRun t most status source file report
 IsRun-received t most told status source file report counted spaces found received answered delivered given same =
     let three = at_three told status same in
-    let four : status ≡ 4 → ⊥ = λ e. not_four told delivered.no_other ((at_four told status same).0 e) in
+    let four : status ≡ 4 → ⊥ = λ four. four_alone status four (decoded_or_through told status delivered.no_other same) in
     let text = unpacked-is t most (bytes_read source) ∙ sym (ap (file_of t) answered) in
     record {
       not_decoded = λ _. rw text (λ e. delivered.not_decoded.0 (three.0 e), λ none. three.1 (delivered.not_decoded.1 none));
@@ -132,11 +110,11 @@ IsRun-received t most told status source file report counted spaces found receiv
       failed_before_stop = λ e. absurd (four e);
       remainder = λ _. received.left;
       more_left = λ e. absurd (four e);
-      written = λ is. rw text (delivered.written (touched_back told status same is));
+      written = λ is. rw text (delivered.written (told_through told status same is));
       reported = record {
         told = told;
         same_or_five = same;
-        five = λ can is. delivered.output_fault can (touched_back told status same is);
+        five = λ can is. delivered.output_fault can (told_through told status same is);
         given = subst (λ l. WasGiven l report) (outcome_report-received t most told source counted spaces found received answered delivered.no_other) given;
       };
     }

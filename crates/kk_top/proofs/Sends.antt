@@ -33,7 +33,8 @@ use Rattle.kk_top.specs.Report.{concluded_text}
 use Rattle.kk_top.specs.TicketWord.{NamesTicketFor}
 use Rattle.kk_top.specs.Words.{IsRequestFor}
 use Rattle.kk_top.specs.Seed.{seed_of}
-use Rattle.kk_top.specs.commands.Send.{Order, AsksToSend, broken_range, OrdersSending, BreaksRange, IsRefusedFor, IsCauseOf, ordered_datagrams, ordered_frames, sent_line, IsSent, Sends}
+use Rattle.kk_top.specs.commands.Send.{Order, AsksToSend, broken_range, OrdersSending, BreaksRange, IsRefusedFor, IsCauseOf, ordered_datagrams, ordered_frames, sent_line, Sends}
+use Rattle.kk_top.proofs.Statuses.{IsStatusOf, not_through, through_told}
 use Rattle.kk_top.proofs.TicketWords.{same_request_for, ticket_or_none}
 
 -- ---- the order in the words
@@ -97,9 +98,6 @@ by_order words P a b one other h = subst P (same_order words a b one.asks other.
 
 -- ---- refused at once
 
-not_sent : (status : ℕ) → (status ≡ 1) ⊎ ((status ≡ 2) ⊎ ((status ≡ 4) ⊎ ((status ≡ 7) ⊎ ((status ≡ 8) ⊎ ((status ≡ 9) ⊎ (status ≡ 11)))))) → IsSent status → ⊥
-not_sent status is sent = grind arith
-
 -- a range is broken
 sends_out_of_range : (words : List (List ℕ)) (cause : Refusal) (status : ℕ) (source : SourceTold) (outlet : OutletTold) (report : Change SinkTold)
     → BreaksRange words cause → IsCauseOf words (change source source) (change outlet outlet) cause → status ≡ 11 → status ≡ status_of cause → WasGiven (refusal_text cause) report
@@ -111,7 +109,7 @@ sends_out_of_range words cause status source outlet report why caused is tells g
   input_fault = λ can. (λ e. absurd (omega (arith, e, is)), λ rose. absurd (omega (arith, rose)));
   wrong_length = λ order orders. absurd (kept_or_broken words order cause orders why);
   outlet_fault = λ can. (λ e. absurd (omega (arith, e, is)), λ rose. absurd (omega (arith, rose)));
-  output_fault = λ can sent. absurd (not_sent status (inr (inr (inr (inr (inr (inr is)))))) sent);
+  output_fault = λ can sent. absurd (not_through 11 status refl is sent);
   no_other_status = inl (inr (inr (inr is)));
   read_to_length = λ order orders. absurd (kept_or_broken words order cause orders why);
   failed_within_length = λ order orders. absurd (kept_or_broken words order cause orders why);
@@ -132,15 +130,15 @@ sends_without_memory words status source outlet report is given = record {
   input_fault = λ can. (λ e. absurd (omega (arith, e, is)), λ rose. absurd (omega (arith, rose)));
   wrong_length = λ order orders other. absurd (other is);
   outlet_fault = λ can. (λ e. absurd (omega (arith, e, is)), λ rose. absurd (omega (arith, rose)));
-  output_fault = λ can sent. absurd (not_sent status (inr (inr (inr (inr (inl is))))) sent);
+  output_fault = λ can sent. absurd (not_through 8 status refl is sent);
   no_other_status = inl (inr (inr (inl is)));
   read_to_length = λ order orders other. absurd (other is);
   failed_within_length = λ order orders four. absurd (omega (arith, four, is));
   remainder = λ order orders other. absurd (other is);
-  sent = λ order orders sent. absurd (not_sent status (inr (inr (inr (inr (inl is))))) sent);
+  sent = λ order orders sent. absurd (not_through 8 status refl is sent);
   prefix = λ order orders seven. absurd (omega (arith, seven, is));
   refused = λ _. (Memory, tt, record { tells = is; given = given });
-  reported = λ order orders sent. absurd (not_sent status (inr (inr (inr (inr (inl is))))) sent);
+  reported = λ order orders sent. absurd (not_through 8 status refl is sent);
 }
 
 -- the words are refused
@@ -154,7 +152,7 @@ sends_refused words Words status source outlet report why is given = record {
   input_fault = λ can. (λ e. absurd (omega (arith, e, is)), λ rose. absurd (omega (arith, rose)));
   wrong_length = λ order orders. absurd (why orders.asks.request orders.asks.asked);
   outlet_fault = λ can. (λ e. absurd (omega (arith, e, is)), λ rose. absurd (omega (arith, rose)));
-  output_fault = λ can sent. absurd (not_sent status (inl is) sent);
+  output_fault = λ can sent. absurd (not_through 1 status refl is sent);
   no_other_status = inl (inl is);
   read_to_length = λ order orders. absurd (why orders.asks.request orders.asks.asked);
   failed_within_length = λ order orders. absurd (why orders.asks.request orders.asks.asked);
@@ -171,7 +169,7 @@ sends_refused words (Ticket wrong) status source outlet report why is given = re
   input_fault = λ can. (λ e. absurd (omega (arith, e, is)), λ rose. absurd (omega (arith, rose)));
   wrong_length = λ order orders. absurd (ticket_or_none Send words order.ticket wrong (names_ticket words order orders.asks) why);
   outlet_fault = λ can. (λ e. absurd (omega (arith, e, is)), λ rose. absurd (omega (arith, rose)));
-  output_fault = λ can sent. absurd (not_sent status (inr (inl is)) sent);
+  output_fault = λ can sent. absurd (not_through 2 status refl is sent);
   no_other_status = inl (inr (inl is));
   read_to_length = λ order orders. absurd (ticket_or_none Send words order.ticket wrong (names_ticket words order orders.asks) why);
   failed_within_length = λ order orders. absurd (ticket_or_none Send words order.ticket wrong (names_ticket words order orders.asks) why);
@@ -255,15 +253,15 @@ sends_unread words order status source outlet report orders sending is given =
       input_fault = λ can. (λ _. (sending.source_failed can).0 refl, λ _. is);
       wrong_length = λ other others _ four. absurd (four is);
       outlet_fault = λ can. (λ e. absurd (omega (arith, e, is)), λ rose. absurd (read_outlet ((sending.outlet_failed can).1 rose)));
-      output_fault = λ can sent. absurd (not_sent status (inr (inr (inl is))) sent);
+      output_fault = λ can sent. absurd (not_through 4 status refl is sent);
       no_other_status = inr (inl is);
       read_to_length = λ other others _ four. absurd (four is);
       failed_within_length = λ other others _. by_order words (λ o. FailsWithinLength o.ticket.length source) order other orders others before;
       remainder = λ other others _ four. absurd (four is);
-      sent = λ other others sent. absurd (not_sent status (inr (inr (inl is))) sent);
+      sent = λ other others sent. absurd (not_through 4 status refl is sent);
       prefix = λ other others seven. absurd (omega (arith, seven, is));
       refused = λ _. (Input, (order, orders, before), record { tells = is; given = given });
-      reported = λ other others sent. absurd (not_sent status (inr (inr (inl is))) sent);
+      reported = λ other others sent. absurd (not_through 4 status refl is sent);
     }
 
 -- the source has another number of bytes
@@ -283,15 +281,15 @@ sends_wrong_length words order got more status source outlet report orders sendi
       input_fault = λ can. (λ e. absurd (omega (arith, e, is)), λ rose. absurd (no_read ((sending.source_failed can).1 rose)));
       wrong_length = λ other others _ _. (λ _. by_order words (λ o. length (bytes_read source) ≡ o.ticket.length → ⊥) order other orders others other_length, λ _. is);
       outlet_fault = λ can. (λ e. absurd (omega (arith, e, is)), λ rose. absurd (length_outlet got more ((sending.outlet_failed can).1 rose)));
-      output_fault = λ can sent. absurd (not_sent status (inr (inr (inr (inr (inr (inl is)))))) sent);
+      output_fault = λ can sent. absurd (not_through 9 status refl is sent);
       no_other_status = inr (inr (inr (inl is)));
       read_to_length = λ other others _ _. by_order words (λ o. ReadsToLength o.ticket.length source) order other orders others read;
       failed_within_length = λ other others four. absurd (omega (arith, four, is));
       remainder = λ other others _ _. by_order words (λ o. IfSome source.old.left (λ bytes. LeavesAfterLength o.ticket.length bytes source)) order other orders others (sending.left no_alloc no_read);
-      sent = λ other others sent. absurd (not_sent status (inr (inr (inr (inr (inr (inl is)))))) sent);
+      sent = λ other others sent. absurd (not_through 9 status refl is sent);
       prefix = λ other others seven. absurd (omega (arith, seven, is));
       refused = λ _. (Length got more, (order, orders, read, wrong), record { tells = is; given = given });
-      reported = λ other others sent. absurd (not_sent status (inr (inr (inr (inr (inr (inl is)))))) sent);
+      reported = λ other others sent. absurd (not_through 9 status refl is sent);
     }
 
 -- the outlet failed
@@ -307,15 +305,15 @@ sends_cut words order status source outlet report orders sending is given =
       input_fault = λ can. (λ e. absurd (omega (arith, e, is)), λ rose. absurd (outlet_read ((sending.source_failed can).1 rose)));
       wrong_length = λ other others _ _. (λ e. absurd (omega (arith, e, is)), λ wrong. absurd (wrong (by_order words (λ o. length (bytes_read source) ≡ o.ticket.length) order other orders others whole)));
       outlet_fault = λ can. (λ _. (sending.outlet_failed can).0 refl, λ _. is);
-      output_fault = λ can sent. absurd (not_sent status (inr (inr (inr (inl is)))) sent);
+      output_fault = λ can sent. absurd (not_through 7 status refl is sent);
       no_other_status = inr (inr (inl is));
       read_to_length = λ other others _ _. by_order words (λ o. ReadsToLength o.ticket.length source) order other orders others (sending.read outlet_alloc outlet_read);
       failed_within_length = λ other others four. absurd (omega (arith, four, is));
       remainder = λ other others _ _. by_order words (λ o. IfSome source.old.left (λ bytes. LeavesAfterLength o.ticket.length bytes source)) order other orders others (sending.left outlet_alloc outlet_read);
-      sent = λ other others sent. absurd (not_sent status (inr (inr (inr (inl is)))) sent);
+      sent = λ other others sent. absurd (not_through 7 status refl is sent);
       prefix = λ other others _. by_order words (λ o. SentPrefix outlet (ordered_datagrams o (bytes_read source))) order other orders others prefix;
       refused = λ _. (Outlet, (order, orders, prefix), record { tells = is; given = given });
-      reported = λ other others sent. absurd (not_sent status (inr (inr (inr (inl is)))) sent);
+      reported = λ other others sent. absurd (not_through 7 status refl is sent);
     }
 
 -- it wasn't sent, for whichever fault
@@ -329,39 +327,30 @@ sends_failed words order fault.Read status s0 s1 o0 o1 report orders sending is 
 sends_failed words order (fault.Length got more) status s0 s1 o0 o1 report orders sending is given = sends_wrong_length words order got more status (change s0 s1) (change o0 o1) report orders sending is given
 sends_failed words order fault.Outlet status s0 s1 o0 o1 report orders sending is given = sends_cut words order status (change s0 s1) (change o0 o1) report orders sending is given
 
-sent_not : (status : ℕ) → IsSent status → (status ≡ 1 → ⊥) × (status ≡ 2 → ⊥) × (status ≡ 4 → ⊥) × (status ≡ 7 → ⊥) × (status ≡ 9 → ⊥) × (status ≡ 11 → ⊥)
-sent_not status (inl zero_) = (λ e. omega (arith, e, zero_), λ e. omega (arith, e, zero_), λ e. omega (arith, e, zero_), λ e. omega (arith, e, zero_), λ e. omega (arith, e, zero_), λ e. omega (arith, e, zero_))
-sent_not status (inr five) = (λ e. omega (arith, e, five), λ e. omega (arith, e, five), λ e. omega (arith, e, five), λ e. omega (arith, e, five), λ e. omega (arith, e, five), λ e. omega (arith, e, five))
-
-sent_status : (told status : ℕ) → told ≡ 0 → (status ≡ told) ⊎ ((told ≡ 0) × (status ≡ 5)) → IsSent status
-sent_status told status done (inl same) = inl (same ∙ done)
-sent_status told status done (inr five) = inr five.1
-
 -- all was sent
 pub sends_done : (words : List (List ℕ)) (order : Order) (sent : Sent) (told status : ℕ) (source : Change SourceTold) (outlet : Change OutletTold) (report : Change SinkTold)
     → OrdersSending words order → IsSending order source outlet (Ok sent) → outlet.new.sent ≡ append_datagrams outlet.old.sent (ordered_datagrams order (bytes_read source))
-    → WasGiven (concluded_text 0 (sent_line order (bytes_read source))) report → told ≡ 0 → (status ≡ told) ⊎ ((told ≡ 0) × (status ≡ 5)) → (CanCount report.old.faults → told ≡ 0 → (status ≡ 5) ↔ SinkFailed report)
+    → WasGiven (concluded_text 0 (sent_line order (bytes_read source))) report → told ≡ 0 → IsStatusOf told status → (CanCount report.old.faults → told ≡ 0 → (status ≡ 5) ↔ SinkFailed report)
     → Sends words source report outlet status
 sends_done words order sent told status source outlet report orders sending went given done same five =
     let never = sent_err sent in
-    let is_sent = sent_status told status done same in
-    let not = sent_not status is_sent in
+    let through = through_told told status (inl done) same in
     let whole = right_length order.ticket.length (length (bytes_read source)) (λ got more wrong. never (fault.Length got more) ((sending.wrong got more (never fault.Alloc) (never fault.Read)).1 wrong)) in
     record {
-      words_refused = λ _. (λ e. absurd (not.0 e), λ none. absurd (none orders.asks.request orders.asks.asked));
-      ticket_refused = λ _. (λ e. absurd (not.1 e), λ none. absurd (ticket_or_none Send words order.ticket none.0 (names_ticket words order orders.asks) none.1));
-      range_refused = λ _. (λ e. absurd (not.5 e), λ broken. absurd (kept_or_broken words order broken.0 orders broken.1));
-      input_fault = λ can. (λ e. absurd (not.2 e), λ rose. absurd (never fault.Read ((sending.source_failed can).1 rose)));
-      wrong_length = λ other others _ _. (λ e. absurd (not.4 e), λ wrong. absurd (wrong (by_order words (λ o. length (bytes_read source) ≡ o.ticket.length) order other orders others whole)));
-      outlet_fault = λ can. (λ e. absurd (not.3 e), λ rose. absurd (never fault.Outlet ((sending.outlet_failed can).1 rose)));
+      words_refused = λ _. (λ e. absurd (not_through 1 status refl e through), λ none. absurd (none orders.asks.request orders.asks.asked));
+      ticket_refused = λ _. (λ e. absurd (not_through 2 status refl e through), λ none. absurd (ticket_or_none Send words order.ticket none.0 (names_ticket words order orders.asks) none.1));
+      range_refused = λ _. (λ e. absurd (not_through 11 status refl e through), λ broken. absurd (kept_or_broken words order broken.0 orders broken.1));
+      input_fault = λ can. (λ e. absurd (not_through 4 status refl e through), λ rose. absurd (never fault.Read ((sending.source_failed can).1 rose)));
+      wrong_length = λ other others _ _. (λ e. absurd (not_through 9 status refl e through), λ wrong. absurd (wrong (by_order words (λ o. length (bytes_read source) ≡ o.ticket.length) order other orders others whole)));
+      outlet_fault = λ can. (λ e. absurd (not_through 7 status refl e through), λ rose. absurd (never fault.Outlet ((sending.outlet_failed can).1 rose)));
       output_fault = λ can _. five can done;
-      no_other_status = inr (inr (inr (inr is_sent)));
+      no_other_status = inr (inr (inr (inr through)));
       read_to_length = λ other others _ _. by_order words (λ o. ReadsToLength o.ticket.length source) order other orders others (sending.read (never fault.Alloc) (never fault.Read));
-      failed_within_length = λ other others e. absurd (not.2 e);
+      failed_within_length = λ other others e. absurd (not_through 4 status refl e through);
       remainder = λ other others _ _. by_order words (λ o. IfSome source.old.left (λ bytes. LeavesAfterLength o.ticket.length bytes source)) order other orders others (sending.left (never fault.Alloc) (never fault.Read));
       sent = λ other others _. by_order words (λ o. outlet.new.sent ≡ append_datagrams outlet.old.sent (ordered_datagrams o (bytes_read source))) order other orders others went;
-      prefix = λ other others e. absurd (not.3 e);
-      refused = λ unsent. absurd (unsent is_sent);
+      prefix = λ other others e. absurd (not_through 7 status refl e through);
+      refused = λ unsent. absurd (unsent through);
       reported = λ other others _. by_order words (λ o. WasGiven (concluded_text 0 (sent_line o (bytes_read source))) report) order other orders others given;
     }
 

@@ -2,12 +2,12 @@
 ghost use Rattle.std.specs.Prelude.{◌≡◌, ◌≤◌, [], Some, None, length, drop, map};
 ghost use Rattle.kk_outside.specs.Change.{change};
 ghost use Rattle.kk_workers.specs.Headline.{changes};
-ghost use Rattle.kk_top.specs.Command.{texts, MayTouchFile};
+ghost use Rattle.kk_top.specs.Command.{texts, EndedAtOnce, MayTouchFile};
 ghost use Rattle.kk_top.specs.Refusal.{IsRefused};
 ghost use Rattle.kk_top.specs.Words.{named_in};
 ghost use Rattle.kk_top.specs.commands.Pack.{Packs};
 ghost use Rattle.kk_top.specs.commands.Plan.{Plans};
-ghost use Rattle.kk_top.specs.commands.Relay.{EndedBefore, Relays};
+ghost use Rattle.kk_top.specs.commands.Relay.{Relays};
 ghost use Rattle.kk_top.specs.commands.Recv.{Receives};
 ghost use Rattle.kk_top.specs.commands.Send.{Sends};
 ghost use Rattle.kk_top.specs.commands.Unpack.{Unpacks};
@@ -73,7 +73,7 @@ pub fn run<R: Threads + Sync, S: Source, K: Sink, P: Sink, G: Gate + Send, O: Ou
     // only `recv` leaves logs.
     ensures gates { (named_in (texts words.now) ≡ Some Command.Relay → ⊥) → (named_in (texts words.now) ≡ Some Command.Recv → ⊥) → gates.new ≡ gates.old }
     ensures others { named_in (texts words.now) ≡ Some Command.Relay → drop 1 gates.new.items ≡ drop 1 gates.old.items }
-    ensures unasked { named_in (texts words.now) ≡ Some Command.Relay → EndedBefore result → gates.new ≡ gates.old }
+    ensures unasked { named_in (texts words.now) ≡ Some Command.Relay → EndedAtOnce result → gates.new ≡ gates.old }
     ensures outlet { (named_in (texts words.now) ≡ Some Command.Send → ⊥) → (named_in (texts words.now) ≡ Some Command.Relay → ⊥) → outlet.new ≡ outlet.old }
     ensures logs { (named_in (texts words.now) ≡ Some Command.Recv → ⊥) → logs.new ≡ logs.old }
 {

@@ -48,13 +48,9 @@ IsCauseOf words source Memory = Unit {0}
 abbrev pub frames_line : TicketFields → List ℕ → List ℕ
 frames_line t file = codes "frames " ++ decimal (length (capture_frames t file)) ++ codes "\n"
 
--- the run ended before any call on its source
-abbrev pub EndedBefore : ℕ → Type 0
-EndedBefore status = (status ≡ 1) ⊎ ((status ≡ 2) ⊎ (status ≡ 8))
-
 -- the statuses of `pack`
 abbrev pub IsPackStatus : ℕ → Type 0
-IsPackStatus status = EndedBefore status ⊎ ((status ≡ 4) ⊎ ((status ≡ 9) ⊎ MayTouchFile status))
+IsPackStatus status = (status ≡ 1) ⊎ ((status ≡ 2) ⊎ ((status ≡ 4) ⊎ ((status ≡ 8) ⊎ ((status ≡ 9) ⊎ MayTouchFile status))))
 
 -- ---- the promise
 

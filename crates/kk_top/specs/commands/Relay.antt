@@ -24,6 +24,7 @@ use Rattle.kk_words.specs.Request.{Request, number_of}
 use Rattle.kk_top.specs.declared.refusal.Refusal.{Refusal}
 use Rattle.kk_top.specs.declared.refusal.Refusal.TheVariants.{Words, Ticket, Seed, Range, Listen, Input, Length, Outlet, Memory}
 use Rattle.kk_top.specs.declared.words.TheConstants.{MAX_MOST, MAX_IDLE}
+use Rattle.kk_top.specs.Command.{EndedAtOnce, RanThrough}
 use Rattle.kk_top.specs.Refusal.{IsRefused}
 use Rattle.kk_top.specs.Report.{gate_line, concluded_text}
 use Rattle.kk_top.specs.Seed.{seed_of, stream_with}
@@ -105,18 +106,14 @@ relay_lines order events =
 
 -- ---- the promise
 
--- all was sent
-abbrev pub IsRelayed : ℕ → Type 0
-IsRelayed status = (status ≡ 0) ⊎ (status ≡ 5)
-
 -- What a run of `relay` over one gate by an order makes of it, of its report and of its outlet, and which status it has: 4
 -- where the gate failed, 7 where the outlet did, and else 0, or 5 where the report did.
 pub record RelaysBy (order : Order) (gate : Change GateTold) (report : Change SinkTold) (outlet : Change OutletTold) (status : ℕ) : Type 0 where
   -- Which status comes.
   pub input_fault : CanCount gate.old.faults → ((status ≡ 4) ↔ GateFailed gate)
   pub outlet_fault : CanCount outlet.old.faults → ((status ≡ 7) ↔ OutletFailed outlet)
-  pub output_fault : CanCount report.old.faults → IsRelayed status → ((status ≡ 5) ↔ SinkFailed report)
-  pub no_other_status : (status ≡ 4) ⊎ ((status ≡ 7) ⊎ IsRelayed status)
+  pub output_fault : CanCount report.old.faults → RanThrough status → ((status ≡ 5) ↔ SinkFailed report)
+  pub no_other_status : (status ≡ 4) ⊎ ((status ≡ 7) ⊎ RanThrough status)
   -- What was asked of the gate: all up to its stop, and after a fault of the outlet no more than that.
   pub asked : AsksUpToStop order.ticket order.limits gate
   pub stop : (status ≡ 7 → ⊥) → StopsThere order.ticket order.limits gate
@@ -127,11 +124,7 @@ pub record RelaysBy (order : Order) (gate : Change GateTold) (report : Change Si
   -- What the report's sink holds: at 5 less than all of that.
   pub gate_refused : status ≡ 4 → IsRefused Input status report
   pub outlet_refused : status ≡ 7 → IsRefused Outlet status report
-  pub reported : IsRelayed status → WasGiven (concluded_text 0 (relay_lines order (events_told gate))) report
-
--- the run ended before any call on a gate or an outlet
-abbrev pub EndedBefore : ℕ → Type 0
-EndedBefore status = (status ≡ 1) ⊎ ((status ≡ 2) ⊎ ((status ≡ 8) ⊎ (status ≡ 11)))
+  pub reported : RanThrough status → WasGiven (concluded_text 0 (relay_lines order (events_told gate))) report
 
 -- why a run is refused before any call on a gate, where this many were handed in
 abbrev pub IsCauseOf : List (List ℕ) → ℕ → Refusal → Type 0
@@ -155,6 +148,6 @@ pub record Relays (words : List (List ℕ)) (gates : Change (List GateTold)) (re
   pub words_refused : (status ≡ 8 → ⊥) → ((status ≡ 1) ↔ AsksNothingOf words Relay)
   pub ticket_refused : (status ≡ 8 → ⊥) → ((status ≡ 2) ↔ ((fault : TicketFault) × NamesNoTicketFor Relay words fault))
   pub range_refused : (status ≡ 8 → ⊥) → ((status ≡ 11) ↔ (((cause : Refusal) × BreaksRange words cause) ⊎ ((order : Order) × OrdersRelaying words order × (length gates.old ≡ 0))))
-  pub refused : EndedBefore status → (cause : Refusal) × IsCauseOf words (length gates.old) cause × IsRefused cause status report
+  pub refused : EndedAtOnce status → (cause : Refusal) × IsCauseOf words (length gates.old) cause × IsRefused cause status report
   -- What the run over the first gate comes to.
   pub runs : (order : Order) (gate : Change GateTold) → OrdersRelaying words order → FirstIs gates gate → (status ≡ 8 → ⊥) → RelaysBy order gate report outlet status

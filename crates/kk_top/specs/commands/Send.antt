@@ -20,6 +20,7 @@ use Rattle.kk_words.specs.declared.argument.Name.TheVariants.{Extra, Pack}
 use Rattle.kk_words.specs.Request.{Request, number_of}
 use Rattle.kk_top.specs.declared.refusal.Refusal.{Refusal}
 use Rattle.kk_top.specs.declared.refusal.Refusal.TheVariants.{Words, Ticket, Seed, Range, Listen, Input, Length, Outlet, Memory}
+use Rattle.kk_top.specs.Command.{EndedAtOnce, RanThrough}
 use Rattle.kk_top.specs.Refusal.{IsRefused}
 use Rattle.kk_top.specs.Report.{concluded_text}
 use Rattle.kk_top.specs.Seed.{seed_of, stream_with}
@@ -107,17 +108,9 @@ IsCauseOf words source outlet (Length got more) =
 IsCauseOf words source outlet Outlet = (order : Order) × OrdersSending words order × SentPrefix outlet (ordered_datagrams order (bytes_read source))
 IsCauseOf words source outlet Memory = Unit {0}
 
--- all datagrams were sent
-abbrev pub IsSent : ℕ → Type 0
-IsSent status = (status ≡ 0) ⊎ (status ≡ 5)
-
--- the run ended before any call on its source
-abbrev pub EndedBefore : ℕ → Type 0
-EndedBefore status = (status ≡ 1) ⊎ ((status ≡ 2) ⊎ ((status ≡ 8) ⊎ (status ≡ 11)))
-
 -- the statuses of `send`
 abbrev pub IsSendStatus : ℕ → Type 0
-IsSendStatus status = EndedBefore status ⊎ ((status ≡ 4) ⊎ ((status ≡ 7) ⊎ ((status ≡ 9) ⊎ IsSent status)))
+IsSendStatus status = EndedAtOnce status ⊎ ((status ≡ 4) ⊎ ((status ≡ 7) ⊎ ((status ≡ 9) ⊎ RanThrough status)))
 
 -- how much was sent
 abbrev pub sent_line : Order → List ℕ → List ℕ
@@ -133,7 +126,7 @@ pub record Sends (words : List (List ℕ)) (source : Change SourceTold) (report 
   pub input_fault : CanCount source.old.faults → ((status ≡ 4) ↔ SourceFailed source)
   pub wrong_length : (order : Order) → OrdersSending words order → (status ≡ 8 → ⊥) → (status ≡ 4 → ⊥) → ((status ≡ 9) ↔ (length (bytes_read source) ≡ order.ticket.length → ⊥))
   pub outlet_fault : CanCount outlet.old.faults → ((status ≡ 7) ↔ OutletFailed outlet)
-  pub output_fault : CanCount report.old.faults → IsSent status → ((status ≡ 5) ↔ SinkFailed report)
+  pub output_fault : CanCount report.old.faults → RanThrough status → ((status ≡ 5) ↔ SinkFailed report)
   pub no_other_status : IsSendStatus status
   -- What was read: the file and the end after it, or one byte more, unless a read failed before.
   pub read_to_length : (order : Order) → OrdersSending words order → (status ≡ 8 → ⊥) → (status ≡ 4 → ⊥) → ReadsToLength order.ticket.length source
@@ -141,8 +134,8 @@ pub record Sends (words : List (List ℕ)) (source : Change SourceTold) (report 
   -- The same where the source tells the bytes that it has left.
   pub remainder : (order : Order) → OrdersSending words order → (status ≡ 8 → ⊥) → (status ≡ 4 → ⊥) → IfSome source.old.left (λ bytes. LeavesAfterLength order.ticket.length bytes source)
   -- What was sent: all datagrams, or fewer of them, from the front, where the outlet failed.
-  pub sent : (order : Order) → OrdersSending words order → IsSent status → outlet.new.sent ≡ append_datagrams outlet.old.sent (ordered_datagrams order (bytes_read source))
+  pub sent : (order : Order) → OrdersSending words order → RanThrough status → outlet.new.sent ≡ append_datagrams outlet.old.sent (ordered_datagrams order (bytes_read source))
   pub prefix : (order : Order) → OrdersSending words order → status ≡ 7 → SentPrefix outlet (ordered_datagrams order (bytes_read source))
   -- What the report's sink holds: at 5 less than all of that.
-  pub refused : (IsSent status → ⊥) → (cause : Refusal) × IsCauseOf words source outlet cause × IsRefused cause status report
-  pub reported : (order : Order) → OrdersSending words order → IsSent status → WasGiven (concluded_text 0 (sent_line order (bytes_read source))) report
+  pub refused : (RanThrough status → ⊥) → (cause : Refusal) × IsCauseOf words source outlet cause × IsRefused cause status report
+  pub reported : (order : Order) → OrdersSending words order → RanThrough status → WasGiven (concluded_text 0 (sent_line order (bytes_read source))) report

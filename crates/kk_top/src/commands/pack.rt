@@ -7,9 +7,9 @@ ghost use Rattle.kk_outside.specs.Sink.{SinkFailed, WasGiven};
 ghost use Rattle.kk_code.specs.Ticket.{generations};
 ghost use Rattle.kk_sender.specs.SentFrames.{packed};
 ghost use Rattle.kk_words.specs.declared.command.Command.TheVariants as Command;
-ghost use Rattle.kk_top.specs.Command.{texts, MayTouchFile};
+ghost use Rattle.kk_top.specs.Command.{texts, EndedAtOnce, MayTouchFile};
 ghost use Rattle.kk_top.specs.TicketWord.{NamesTicketFor};
-ghost use Rattle.kk_top.specs.commands.Pack.{IsRefusedFor, EndedBefore, Packs};
+ghost use Rattle.kk_top.specs.commands.Pack.{IsRefusedFor, Packs};
 
 use crate::lines::{Line, numbered};
 use crate::packing::write_capture;
@@ -40,7 +40,7 @@ pub fn run_pack<S: Source, K: Sink, P: Sink>(
         (change (K.told file.old) (K.told file.new)) (change (P.told report.old) (P.told report.new)) result }
 
     // Nothing is read where the words are refused or there is no memory, and nothing is written on a refusal.
-    ensures unread { EndedBefore result → source.new ≡ source.old }
+    ensures unread { EndedAtOnce result → source.new ≡ source.old }
     ensures unwritten { (MayTouchFile result → ⊥) → file.new ≡ file.old }
 {
     let ticket = match ticket_named(alloc, words) {

@@ -3,9 +3,9 @@ ghost use Rattle.std.specs.Prelude.{◌≡◌, ◌+◌, ◌<◌, ◌≤◌, ◌+
 ghost use Rattle.arrayvec.specs.ArrayString.{array_string_len};
 ghost use Rattle.kk_outside.specs.Change.{change};
 ghost use Rattle.kk_relay.specs.RelayState.{relay_after};
-ghost use Rattle.kk_top.specs.Command.{texts};
+ghost use Rattle.kk_top.specs.Command.{texts, EndedAtOnce};
 ghost use Rattle.kk_top.specs.Report.{gate_line};
-ghost use Rattle.kk_top.specs.commands.Relay.{broken_range, OrdersRelaying, IsRefusedFor, EndedBefore, RelaysBy, Relays};
+ghost use Rattle.kk_top.specs.commands.Relay.{broken_range, OrdersRelaying, IsRefusedFor, RelaysBy, Relays};
 
 use crate::lines::{Lines, LongLine, gate_line, push_count};
 use crate::refusal::Refusal;
@@ -38,8 +38,8 @@ pub fn run_relay<P: Sink, G: Gate + Send, O: Outlet>(
         (change (P.told report.old) (P.told report.new)) (change (O.told outlet.old) (O.told outlet.new)) result }
 
     // Nothing is asked or sent where the run is refused before, and only the first gate is asked.
-    ensures unasked { EndedBefore result → gates.new ≡ gates.old }
-    ensures unsent { EndedBefore result → outlet.new ≡ outlet.old }
+    ensures unasked { EndedAtOnce result → gates.new ≡ gates.old }
+    ensures unsent { EndedAtOnce result → outlet.new ≡ outlet.old }
     ensures others { drop 1 gates.new.items ≡ drop 1 gates.old.items }
 {
     let order = match order_in(alloc, words) {

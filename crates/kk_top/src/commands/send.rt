@@ -1,8 +1,8 @@
 //! `send`: a file comes in, and goes out in datagrams.
 ghost use Rattle.std.specs.Prelude.{◌≡◌, ◌++◌, Some, codes, decimal, IfOk, IfErr};
 ghost use Rattle.kk_outside.specs.Change.{change};
-ghost use Rattle.kk_top.specs.Command.{texts};
-ghost use Rattle.kk_top.specs.commands.Send.{OrdersSending, IsRefusedFor, IsSent, EndedBefore, Sends};
+ghost use Rattle.kk_top.specs.Command.{texts, EndedAtOnce, RanThrough};
+ghost use Rattle.kk_top.specs.commands.Send.{OrdersSending, IsRefusedFor, Sends};
 
 use crate::lines::{LongLine, push_count};
 use crate::refusal::Refusal;
@@ -35,8 +35,8 @@ pub fn run_send<S: Source, P: Sink, O: Outlet>(
         (change (P.told report.old) (P.told report.new)) (change (O.told outlet.old) (O.told outlet.new)) result }
 
     // Nothing is read where the words are refused or there is no memory, and nothing is sent on a refusal but 7.
-    ensures unread { EndedBefore result → source.new ≡ source.old }
-    ensures unsent { (IsSent result → ⊥) → (result ≡ 7 → ⊥) → outlet.new ≡ outlet.old }
+    ensures unread { EndedAtOnce result → source.new ≡ source.old }
+    ensures unsent { (RanThrough result → ⊥) → (result ≡ 7 → ⊥) → outlet.new ≡ outlet.old }
 {
     let order = match order_in(alloc, words) {
         Ok(order) => order,

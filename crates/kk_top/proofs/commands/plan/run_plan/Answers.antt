@@ -1,4 +1,4 @@
-use Rattle.std.proofs.Common.{rules, ◌≡◌, ◌<◌, ◌≤◌, length}
+use Rattle.std.proofs.Common.{rules, ◌≡◌, ◌<◌, ◌≤◌, length, arith}
 use Rattle.std.proofs.lemmas.Bool.{false≢true}
 use Rattle.kk_outside.specs.Change.{change}
 use Rattle.kk_outside.specs.Source.{bytes_read}
@@ -9,7 +9,7 @@ use Rattle.kk_top.specs.declared.refusal.Refusal.TheVariants.{Memory}
 use Rattle.kk_top.specs.Command.{texts}
 use Rattle.kk_top.specs.Status.{code_of}
 use Rattle.kk_top.specs.commands.Plan.{IsFirstTooLong, planned}
-use Rattle.kk_top.proofs.Plans.{plans_refused, plans_failed, plans_stopped, plans_done, plan_failed, plan_ended, plan_stopped, at_most}
+use Rattle.kk_top.proofs.Plans.{plans_refused, plans_failed, plans_stopped, plans_done, plan_failed, plan_ended, plan_stopped}
 use Rattle.kk_top.proofs.commands.plan.run_plan.Goals as goal
 
 pub returns-in-Err-clause-plans : goal.returns-in-Err-clause-plans
@@ -36,7 +36,8 @@ returns-in-Ok-with_length-clause-plans g c =
     let t = c.in-Ok.ticket in
     let source = change (g.S.Source.told c.args.source.now) (g.S.Source.told c.fill.new.source) in
     let room : IsFirstTooLong t (length c.fill.new.buf) = search rules in
-    let few : generations (for_length t c.in-Ok-fill.count) ≤ MAX_GENERATIONS = at_most (λ long. false≢true (c.in-Ok-with_length.ensures.refused.1 long)) in
+    let few : generations (for_length t c.in-Ok-fill.count) ≤ MAX_GENERATIONS =
+    let short : MAX_GENERATIONS < generations (for_length t c.in-Ok-fill.count) → ⊥ = λ long. false≢true (c.in-Ok-with_length.ensures.refused.1 long) in omega arith in
     let ends = plan_ended t c.in-Ok-fill.count source c.fill.new.buf room c.in-Ok-fill.ensures.fills few in
     let file = change (g.K.Sink.told c.args.file.now) (g.K.Sink.told c.write_ticket.new.file) in
     let size : length (bytes_read source) ≡ c.in-Ok-fill.count = ends.1 in

@@ -1,4 +1,4 @@
-use Rattle.std.proofs.Common.{◌≡◌, ℕ, List, Some, Err, refl, ap, sym, subst, ◌∙◌}
+use Rattle.std.proofs.Common.{◌≡◌, inl, ℕ, List, Some, Err, refl, ap, sym, subst, ◌∙◌}
 use Rattle.rand_core.specs.Steps.{stream_of, steps_u32}
 use Rattle.rand_core.specs.Stream.{Stream}
 use Rattle.rand_chacha.specs.ChaCha.{next_word}
@@ -15,7 +15,8 @@ use Rattle.kk_top.specs.Refusal.{status_of, refusal_of_relay, refusal_text}
 use Rattle.kk_top.specs.Report.{concluded_text}
 use Rattle.kk_top.specs.Seed.{stream_with}
 use Rattle.kk_top.specs.commands.Relay.{Order, RelaysBy}
-use Rattle.kk_top.proofs.RelayRuns.{list_by, lines_by, cut_all_by, relayed_so, relays_done, relays_gate_failed, relays_outlet_failed}
+use Rattle.kk_top.proofs.RelayRuns.{list_by, lines_by, cut_all_by, relays_done, relays_gate_failed, relays_outlet_failed}
+use Rattle.kk_top.proofs.Statuses.{through_told}
 use Rattle.kk_top.proofs.commands.relay.relay_by.Goals as goal
 
 pub returns-in-Ok : goal.returns-in-Ok
@@ -32,7 +33,7 @@ returns-in-Ok g c =
     (h.innovative ∙ ap (λ (l : List BasisState). sum_by rank l) (h.rows (λ e. cc))) h.number in
     relays_done order gate report outlet c.conclude.result (h.gate_fault.kept (λ e. cc)) (h.outlet_fault.kept (λ e. cc)) h.asked (h.stop (λ e. cc))
     (h.sent (λ e. cc) ∙ ap (append_datagrams (g.O.Outlet.told c.args.outlet.now).sent) list)
-    (relayed_so c.conclude.result c.conclude.ensures.same_or_five) (λ can. c.conclude.ensures.five can refl)
+    (through_told 0 c.conclude.result (inl refl) c.conclude.ensures.same_or_five) (λ can. c.conclude.ensures.five can refl)
     (subst (λ (l : List ℕ). WasGiven (concluded_text 0 l) report) (c.as_str.ensures.value ∙ c.relay_lines.ensures.text ∙ lines) c.conclude.ensures.given)
 
 pub returns : goal.returns

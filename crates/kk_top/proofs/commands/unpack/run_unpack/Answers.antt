@@ -9,7 +9,7 @@ use Rattle.kk_top.specs.Command.{texts}
 use Rattle.kk_top.specs.Report.{outcome_report}
 use Rattle.kk_top.specs.commands.Unpack.{unpacked}
 use Rattle.kk_top.specs.declared.refusal.Refusal.TheVariants.{Memory}
-use Rattle.kk_top.proofs.Promises.{unpacks_refused, unpacks_failed, unpacks_received}
+use Rattle.kk_top.proofs.Unpacks.{unpacks_refused, unpacks_failed, unpacks_received}
 use Rattle.kk_top.proofs.Asking.{same_ticket, same_most}
 use Rattle.kk_top.proofs.Reporting.{one_each, unpacked-is, IsRun, IsRun-received}
 use Rattle.kk_top.proofs.Counted.{innovative_at_most}

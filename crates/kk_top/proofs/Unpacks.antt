@@ -14,7 +14,8 @@ use Rattle.kk_top.specs.Delivery.{IsDelivered}
 use Rattle.kk_top.specs.Refusal.{status_of, refusal_text}
 use Rattle.kk_top.specs.commands.Unpack.{NamesTicket, IsRefusedFor, UnpacksUnder, FailsBeforeStop, IsBeforeStop, read_length, LeavesMore, Unpacks}
 use Rattle.kk_top.proofs.Asking.{refused_tells, accepted_tells, same_ticket, same_most}
-use Rattle.kk_top.proofs.Reporting.{IsRun, IsStatusOf}
+use Rattle.kk_top.proofs.Reporting.{IsRun}
+use Rattle.kk_top.proofs.Statuses.{IsStatusOf, not_through, once_or_through, once_not_four, three_not_through, decoded_or_through, at_once_alone, four_alone, sinks_failed}
 
 -- the statuses of the refusals that come before any call on a source
 pub at_once : (words : List (List ℕ)) (cause : Refusal) (status : ℕ) → IsRefusedFor words cause → status ≡ status_of cause → EndedAtOnce status
@@ -28,32 +29,6 @@ at_once words Listen status why is = absurd why
 at_once words (Length got more) status why is = absurd why
 at_once words Memory status why is = inr (inr (inl is))
 
-pub once_not_four : (status : ℕ) → EndedAtOnce status → status ≡ 4 → ⊥
-once_not_four status once four = grind arith
-
-pub once_untouched : (status : ℕ) → EndedAtOnce status → MayTouchFile status → ⊥
-once_untouched status once is = grind arith
-
-pub four_untouched : (status : ℕ) → status ≡ 4 → MayTouchFile status → ⊥
-four_untouched status four is = grind arith
-
-pub three_untouched : (told status : ℕ) → told ≡ 3 → IsStatusOf told status → MayTouchFile status → ⊥
-three_untouched told status three same is = grind arith
-
-at_five : (told status : ℕ) → told ≡ 5 → IsStatusOf told status → status ≡ 5
-at_five told status five (inl same) = same ∙ five
-at_five told status five (inr zero_) = zero_.1
-
-pub told_statuses : (told status : ℕ) → (told ≡ 3) ⊎ MayTouchFile told → IsStatusOf told status → (status ≡ 3) ⊎ MayTouchFile status
-told_statuses told status is (inl same) = subst (λ s. (s ≡ 3) ⊎ MayTouchFile s) (sym same) is
-told_statuses told status is (inr zero_) = inr (inr zero_.1)
-
-pub once_not_told : (status : ℕ) → EndedAtOnce status → (status ≡ 3) ⊎ MayTouchFile status → ⊥
-once_not_told status once is = grind arith
-
-pub four_not_told : (status : ℕ) → status ≡ 4 → (status ≡ 3) ⊎ MayTouchFile status → ⊥
-four_not_told status four is = grind arith
-
 -- the words, the ticket or a number were refused, or there was no memory
 pub unpacks_refused : (words : List (List ℕ)) (cause : Refusal) (status : ℕ) (source : SourceTold) (file : SinkTold) (report : Change SinkTold)
     → IsRefusedFor words cause → status ≡ status_of cause → WasGiven (refusal_text cause) report
@@ -66,7 +41,7 @@ unpacks_refused words cause status source file report why is given =
       range_refused = λ other. (refused_tells words cause status why is other).range_refused;
       not_decoded = λ t most under. absurd (under.accepted once);
       input_fault = λ can. (λ four. absurd (once_not_four status once four), λ rose. absurd (omega (arith, rose)));
-      output_fault = λ can can_report touched. absurd (once_untouched status once touched);
+      output_fault = λ can can_report touched. absurd (once_or_through status once touched);
       no_other_status = inl once;
       read_to_stop = λ t most under. absurd (under.accepted once);
       failed_before_stop = λ t most under. absurd (under.accepted once);
@@ -103,31 +78,24 @@ unpacks_failed words t most status source file report named four rose before giv
       range_refused = λ other. (accepted_tells words t most status named once).range_refused;
       not_decoded = λ s more under not. absurd (not four);
       input_fault = λ can. (λ _. rose can, λ _. four);
-      output_fault = λ can can_report touched. absurd (four_untouched status four touched);
+      output_fault = λ can can_report touched. absurd (not_through 4 status refl four touched);
       no_other_status = inr (inr (inl four));
       read_to_stop = λ s more under not. absurd (not four);
       failed_before_stop = λ s more under _. named_once words (λ u n. FailsBeforeStop u n source) t s most more named under.named before;
       remainder = λ s more under not. absurd (not four);
       more_left = λ s more under _. named_once words (λ u n. IfSome source.old.left (λ bytes. LeavesMore u n bytes source)) t s most more named under.named left;
-      written = λ s more under touched. absurd (four_untouched status four touched);
+      written = λ s more under touched. absurd (not_through 4 status refl four touched);
       refused = λ is. absurd (once is);
-      reported = λ s more under. record { told = 4; same_or_five = inl four; five = λ can touched. absurd (four_untouched status four touched); given = given };
+      reported = λ s more under. record { told = 4; same_or_five = inl four; five = λ can touched. absurd (not_through 4 status refl four touched); given = given };
     }
 
 -- the status is 5 exactly where a sink failed
-fault_of : (told status : ℕ) (text : Option (List ℕ)) (file report : Change SinkTold) → IsDelivered text told file → IsStatusOf told status
+delivered_five : (told status : ℕ) (text : Option (List ℕ)) (file report : Change SinkTold) → IsDelivered text told file → IsStatusOf told status
     → (CanCount report.old.faults → told ≡ 0 → (status ≡ 5) ↔ SinkFailed report)
     → CanCount file.old.faults → CanCount report.old.faults → MayTouchFile status → (status ≡ 5) ↔ (SinkFailed file ⊎ SinkFailed report)
-fault_of told status text file report delivered same five can can_report touched = elim delivered.no_other [
-  | inl three ↦ absurd (three_untouched told status three same touched)
-  | inr (inl zero_) ↦
-      let kept : SinkFailed file → ⊥ = λ failed. omega (arith, zero_, (delivered.output_fault can (inl zero_)).1 failed) in (
-        λ e. inr ((five can_report zero_).0 e),
-        λ failed. elim failed [ inl file_failed ↦ absurd (kept file_failed) | inr report_failed ↦ (five can_report zero_).1 report_failed ],
-      )
-  | inr (inr is_five) ↦
-      let is : status ≡ 5 = at_five told status is_five same in
-      (λ _. inl ((delivered.output_fault can (inr is_five)).0 is_five), λ _. is)
+delivered_five told status text file report delivered same five can can_report touched = elim delivered.no_other [
+  | inl three ↦ absurd (three_not_through told status three same touched)
+  | inr through ↦ sinks_failed told status file report through same (λ kept. delivered.output_fault kept through) five can can_report
 ]
 
 -- the capture was read up to the stop
@@ -136,16 +104,16 @@ pub unpacks_received : (words : List (List ℕ)) (t : TicketFields) (most told s
     → (CanCount report.old.faults → told ≡ 0 → (status ≡ 5) ↔ SinkFailed report)
     → Unpacks words source file report status
 unpacks_received words t most told status text source file report named run kept delivered same five =
-    let no_other : (status ≡ 3) ⊎ MayTouchFile status = told_statuses told status delivered.no_other same in
-    let once : EndedAtOnce status → ⊥ = λ is. once_not_told status is no_other in
-    let four : status ≡ 4 → ⊥ = λ is. four_not_told status is no_other in
+    let no_other : (status ≡ 3) ⊎ MayTouchFile status = decoded_or_through told status delivered.no_other same in
+    let once : EndedAtOnce status → ⊥ = λ once. at_once_alone status once no_other in
+    let four : status ≡ 4 → ⊥ = λ four. four_alone status four no_other in
     record {
       words_refused = λ other. (accepted_tells words t most status named once).words_refused;
       ticket_refused = λ other. (accepted_tells words t most status named once).ticket_refused;
       range_refused = λ other. (accepted_tells words t most status named once).range_refused;
       not_decoded = λ s more under. (run_of under).not_decoded;
       input_fault = λ can. (λ e. absurd (four e), λ rose. absurd (omega (arith, rose, kept)));
-      output_fault = fault_of told status text file report delivered same five;
+      output_fault = delivered_five told status text file report delivered same five;
       no_other_status = inr (elim no_other [ inl three ↦ inl three | inr touched ↦ inr (inr touched) ]);
       read_to_stop = λ s more under. (run_of under).read_to_stop;
       failed_before_stop = λ s more under. (run_of under).failed_before_stop;
