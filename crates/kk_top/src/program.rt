@@ -1,16 +1,19 @@
 //! The whole program, over the objects that it is handed.
-ghost use Rattle.std.specs.Prelude.{◌≡◌, ◌≤◌, [], Some, None, length, drop, map};
+ghost use Rattle.std.specs.Prelude.{◌≡◌, ◌⊎◌, ◌≤◌, ℕ, [], Some, None, length, drop, map};
 ghost use Rattle.kk_outside.specs.Change.{change};
+ghost use Rattle.kk_outside.specs.Source.{bytes_read};
+ghost use Rattle.kk_code.specs.Ticket.{TicketFields};
 ghost use Rattle.kk_workers.specs.Headline.{changes};
-ghost use Rattle.kk_top.specs.Command.{texts, EndedAtOnce, MayTouchFile};
+ghost use Rattle.kk_top.specs.Command.{texts, EndedAtOnce, RanThrough, MayTouchFile};
+ghost use Rattle.kk_top.specs.Receiver.{received};
 ghost use Rattle.kk_top.specs.Refusal.{IsRefused};
 ghost use Rattle.kk_top.specs.Words.{named_in};
 ghost use Rattle.kk_top.specs.commands.Pack.{Packs};
-ghost use Rattle.kk_top.specs.commands.Plan.{Plans};
+ghost use Rattle.kk_top.specs.commands.Plan.{NamesCode, Plans};
 ghost use Rattle.kk_top.specs.commands.Relay.{Relays};
-ghost use Rattle.kk_top.specs.commands.Recv.{Receives};
+ghost use Rattle.kk_top.specs.commands.Recv.{Order, OrdersReceiving, Receives};
 ghost use Rattle.kk_top.specs.commands.Send.{Sends};
-ghost use Rattle.kk_top.specs.commands.Unpack.{Unpacks};
+ghost use Rattle.kk_top.specs.commands.Unpack.{UnpacksUnder, unpacked, Unpacks};
 
 use crate::refusal::Refusal;
 use crate::report::refuse;
@@ -65,17 +68,36 @@ pub fn run<R: Threads + Sync, S: Source, K: Sink, P: Sink, G: Gate + Send, O: Ou
         → Receives (texts words.now) (changes G.told gates.old.items gates.new.items)
         (change (K.told file.old) (K.told file.new)) (change (P.told report.old) (P.told report.new)) logs.new.items result }
 
-    // Words that aren't of a command's form read nothing, and a refusal writes nothing but its report.
-    ensures unread { result ≡ 1 → source.new ≡ source.old }
-    ensures unwritten { (MayTouchFile result → ⊥) → file.new ≡ file.old }
+    // What isn't read: anything by a run that ended at once, of `plan` one whose words name no code or that had no memory,
+    // and anything by `relay` and `recv`.
+    ensures unread { (named_in (texts words.now) ≡ Some Command.Plan → ⊥) → EndedAtOnce result → source.new ≡ source.old }
+    ensures unread_by_plan { named_in (texts words.now) ≡ Some Command.Plan
+        → (result ≡ 1) ⊎ ((result ≡ 8) ⊎ ((t : TicketFields) → NamesCode (texts words.now) t → ⊥)) → source.new ≡ source.old }
+    ensures source { (named_in (texts words.now) ≡ Some Command.Relay) ⊎ (named_in (texts words.now) ≡ Some Command.Recv) → source.new ≡ source.old }
 
-    // Only `relay` and `recv` receive datagrams, `relay` from the first gate alone; only `send` and `relay` send any, and
-    // only `recv` leaves logs.
+    // What isn't written: a file by a run that didn't come to its end, one that has no bytes, and any by `send` and `relay`.
+    ensures unwritten { (MayTouchFile result → ⊥) → file.new ≡ file.old }
+    ensures no_bytes_unpacked { (t : TicketFields) (most : ℕ) → UnpacksUnder t most (texts words.now) result
+        → unpacked t most (bytes_read (change (S.told source.old) (S.told source.new))) ≡ Some [] → file.new ≡ file.old }
+    ensures no_bytes_received { (order : Order) → OrdersReceiving (texts words.now) order → (EndedAtOnce result → ⊥)
+        → received order.ticket order.limits (changes G.told gates.old.items gates.new.items) ≡ Some [] → file.new ≡ file.old }
+    ensures file { (named_in (texts words.now) ≡ Some Command.Send) ⊎ (named_in (texts words.now) ≡ Some Command.Relay) → file.new ≡ file.old }
+
+    // Only `relay` and `recv` receive datagrams, `relay` from the first gate alone, and not where they ended at once.
     ensures gates { (named_in (texts words.now) ≡ Some Command.Relay → ⊥) → (named_in (texts words.now) ≡ Some Command.Recv → ⊥) → gates.new ≡ gates.old }
     ensures others { named_in (texts words.now) ≡ Some Command.Relay → drop 1 gates.new.items ≡ drop 1 gates.old.items }
     ensures unasked { named_in (texts words.now) ≡ Some Command.Relay → EndedAtOnce result → gates.new ≡ gates.old }
+    ensures none_asked { named_in (texts words.now) ≡ Some Command.Recv → EndedAtOnce result → gates.new.items ≡ gates.old.items }
+    ensures same_gates { named_in (texts words.now) ≡ Some Command.Recv → length gates.new.items ≡ length gates.old.items }
+
+    // Only `send` and `relay` send datagrams, not where they ended at once, and `send` not where its file wasn't read.
     ensures outlet { (named_in (texts words.now) ≡ Some Command.Send → ⊥) → (named_in (texts words.now) ≡ Some Command.Relay → ⊥) → outlet.new ≡ outlet.old }
+    ensures unsent { EndedAtOnce result → outlet.new ≡ outlet.old }
+    ensures no_file_sent { named_in (texts words.now) ≡ Some Command.Send → (RanThrough result → ⊥) → (result ≡ 7 → ⊥) → outlet.new ≡ outlet.old }
+
+    // Only `recv` leaves logs, and not where it ended at once.
     ensures logs { (named_in (texts words.now) ≡ Some Command.Recv → ⊥) → logs.new ≡ logs.old }
+    ensures none_left { EndedAtOnce result → logs.new.items ≡ [] }
 {
     let Some(command) = command_in(words) else {
         return refuse(Refusal::Words, report);
