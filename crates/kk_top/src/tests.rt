@@ -1,6 +1,7 @@
 ghost use Rattle.std.specs.Prelude.{◌<◌};
 
 mod pack;
+mod plan;
 mod relay;
 mod send;
 
