@@ -2,11 +2,8 @@
 ghost use Rattle.std.specs.Prelude.{◌≡◌, ◌≤◌, IfOk, length};
 
 use kk_outside::{OpenFault, UdpGate, UdpOutlet};
-use kk_top::{WordsFault, places};
+use kk_top::{MAX_GATES, WordsFault, places};
 use std::alloc::Global;
-
-/// The most addresses at which a receiver listens.
-const MAX_GATES: usize = 16;
 
 /// Why the sockets aren't open.
 #[derive(Debug, Drop)]

@@ -25,4 +25,5 @@ pub use addresses::{Addresses, places};
 pub use commands::{run_pack, run_plan, run_recv, run_relay, run_send, run_unpack};
 pub use kk_outside::Alloc;
 pub use kk_words::WordsFault;
+pub use kk_workers::MAX_GATES;
 pub use program::run;
