@@ -1,0 +1,3 @@
+mod Mixing
+mod Injecting
+mod Losses
