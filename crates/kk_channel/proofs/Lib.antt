@@ -1,3 +1,4 @@
+mod Words
 mod Mixing
 mod Injecting
 mod Losses

@@ -1,13 +1,15 @@
 -- Mixed rows span what the rows span.
-use Rattle.std.proofs.Common.{◌≡◌, ℕ, zero, suc, ◌+◌, ◌≤◌, true, List, [], ◌∷◌, ◌++◌, length, map, take, get_or, sym, ◌∙◌, subst, inl, inr, arith, add-one}
+use Rattle.std.proofs.Common.{◌≡◌, ℕ, zero, suc, ◌+◌, ◌<◌, ◌≤◌, true, List, [], ◌∷◌, ◌++◌, length, map, take, drop, get_or, sym, ◌∙◌, subst, ap, bit_xor, inl, inr, arith, add-one}
 use Rattle.std.specs.Prelude.{All, slice_index}
 use Rattle.std.specs.List.{range_with_len}
 use Rattle.std.proofs.lemmas.Bool.{cases_lt}
-use Rattle.std.proofs.lemmas.List.{take_more, take_all, get_or_past}
+use Rattle.std.proofs.lemmas.List.{take_more, take_all, take-map, get_or-map, get_or_past, drop-append-le}
 use Rattle.std.proofs.lemmas.List.Elements.{All-nil, All-push, All-weaker, All-get_or, All-take, All-map}
 use Rattle.std.proofs.lemmas.List.FromFn.{map-range_with_len_more, length-map-range_with_len}
 use Rattle.kk_rows.specs.Span.{in_span, IsIndependent}
 use Rattle.kk_rows.specs.Combination.{combination}
+use Rattle.kk_rows.specs.Rows.{numbers}
+use Rattle.kk_rows.specs.declared.rows.Row.{Row}
 use Rattle.kk_rows.proofs.Sums.{xor_twice_left}
 use Rattle.kk_rows.proofs.Spans.{same_bool, in_span-zero, in_span-xor, in_span-each, in_span-within, in_span-push_skip, in_span-push_use}
 use Rattle.kk_rows.proofs.Dimensions.{dimension-le_within, dimension-le_length}
@@ -73,3 +75,20 @@ module _ (word : ℕ → ℕ) (rows : List ℕ) where
   pub mixed_rows-independent : IsIndependent rows → IsIndependent (mixed_rows word rows)
   mixed_rows-independent independent =
       omega (arith, independent, length-mixed_rows, dimension-le_length (mixed_rows word rows), dimension-le_within rows (mixed_rows word rows) (λ x inside. in_span-mixed_rows x ∙ inside))
+
+-- ---- as the channel keeps them
+
+-- one more of the rows that are kept
+pub kept-more : (word : ℕ → ℕ) (rows : List Row) (erase i : ℕ) (d : Row) → erase ≤ i → i < length rows
+    → drop erase (first_mixed word (numbers rows) (i + 1))
+    ≡ drop erase (first_mixed word (numbers rows) i) ++ bit_xor (get_or rows i d).0 (combination (numbers (take i rows)) (word i)) ∷ []
+kept-more word rows erase i d from less =
+    let see = λ (r : Row). r.0 in
+    let mixed = first_mixed word (numbers rows) i in
+    let front = drop erase mixed in
+    let row : mixed_row word (numbers rows) i ≡ bit_xor (get_or rows i d).0 (combination (numbers (take i rows)) (word i)) =
+    ap (λ r. bit_xor r (combination (take i (numbers rows)) (word i))) (get_or-map see rows i d 0 less)
+    ∙ ap (λ l. bit_xor (get_or rows i d).0 (combination l (word i))) (take-map see i rows) in
+    ap (drop erase) (first_mixed-more word (numbers rows) i)
+    ∙ drop-append-le erase mixed (mixed_row word (numbers rows) i ∷ []) (omega (arith, from, length-map-range_with_len (mixed_row word (numbers rows)) 0 i))
+    ∙ ap (λ r. front ++ r ∷ []) row

@@ -2,4 +2,9 @@
 //! injected.
 #![tactic(auto)]
 
+mod channel;
 pub mod laws;
+mod rows;
+
+pub use channel::pass_through;
+pub use rows::{ChannelRows, MAX_CHANNEL_ROWS};
