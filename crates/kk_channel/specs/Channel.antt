@@ -4,7 +4,7 @@ use Rattle.std.specs.List.{range_with_len}
 use Rattle.kk_rows.specs.Combination.{combination}
 use Rattle.kk_code.specs.Codeword.{Parameters, IsMessage, codeword}
 
--- the rows of the codeword of a message
+-- the rows are the codeword of a message
 pub record IsCodeword (p : Parameters) (rows : List ℕ) : Type 0 where
   pub message : List ℕ
   pub is_message : IsMessage p message
