@@ -1,17 +1,18 @@
 -- Calls that go on by the inserts of frames.
-use Rattle.std.proofs.Common.{◌≡◌, ℕ, ◌<◌, List, [], ◌∷◌, ◌++◌, length, refl, sym, ap, ◌∙◌, append-nil, append_assoc, length-append, arith}
+use Rattle.std.proofs.Common.{◌≡◌, ℕ, ◌<◌, true, false, List, [], ◌∷◌, ◌++◌, length, Option, refl, sym, ap, ◌∙◌, append-nil, append_assoc, length-append, arith}
 use Rattle.kk_rows.specs.declared.rows.Row.{Row}
 use Rattle.kk_machine.specs.declared.call.Call.{Call}
 use Rattle.kk_machine.specs.declared.call.Call.TheVariants.{Insert, Freeze, Peek}
+use Rattle.kk_machine.specs.declared.call.Reply.{Reply}
 use Rattle.kk_machine.specs.declared.call.Entry.{Entry}
 use Rattle.kk_machine.specs.History.{entry}
-use Rattle.kk_machine.specs.Inserts.{AreBelow, is_insert, tally, of_reply, froze, inserts}
-use Rattle.kk_machine.proofs.Tallies.{EachCall-none, EachCall-append, EachCall-one, AreBelow-none, AreBelow-append, tally-none, tally-append}
+use Rattle.kk_machine.specs.Inserts.{AreBelow, tally, inserts}
+use Rattle.kk_machine.proofs.Tallies.{AreBelow-none, AreBelow-append}
 use Rattle.kk_table.specs.declared.answers.Inserted.{Inserted}
 use Rattle.kk_table.specs.Answers.{insert_reply}
-use Rattle.kk_workers.specs.Works.{brought, all_brought}
+use Rattle.kk_workers.specs.Works.{brought, all_brought, reaches}
 use Rattle.kk_workers.specs.Working.{Brings}
-use Rattle.kk_workers.proofs.Counting.{insert_unfrozen}
+use Rattle.kk_workers.proofs.Goals.{InsertsFor-none, InsertsFor-append, inserts_alone, inserts_to_goal}
 
 pub all_brought-none : all_brought [] ≡ []
 unfolding all_brought
@@ -36,34 +37,47 @@ unfolding tally all_brought
 inserts-brought [] = refl
 inserts-brought (e ∷ es) = omega (arith, brings_as_many e, inserts-brought es, length-append (brought e.call) (all_brought es))
 
-pub Brings-nothing : (n : ℕ) (calls : List Entry) → Brings n calls calls []
-Brings-nothing n calls = record {
+pub Brings-nothing : (n : ℕ) (goal : Option ℕ) (calls : List Entry) → Brings n goal calls calls []
+Brings-nothing n goal calls = record {
   more = [];
   goes_on = sym (append-nil calls);
-  inserts = EachCall-none is_insert;
-  unfrozen = tally-none (of_reply froze);
+  inserts = InsertsFor-none goal;
   below = AreBelow-none n;
   in_order = all_brought-none;
 }
 
-pub Brings-append : (n : ℕ) (a b c : List Entry) (fs gs : List (ℕ × ℕ)) → Brings n a b fs → Brings n b c gs → Brings n a c (fs ++ gs)
-Brings-append n a b c fs gs ab bc = record {
+pub Brings-append : (n : ℕ) (goal : Option ℕ) (a b c : List Entry) (fs gs : List (ℕ × ℕ)) → Brings n goal a b fs → Brings n goal b c gs → Brings n goal a c (fs ++ gs)
+Brings-append n goal a b c fs gs ab bc = record {
   more = ab.more ++ bc.more;
   goes_on = bc.goes_on ∙ ap (λ (x : List Entry). x ++ bc.more) ab.goes_on ∙ append_assoc a ab.more bc.more;
-  inserts = EachCall-append is_insert ab.more bc.more ab.inserts bc.inserts;
-  unfrozen = omega (arith, tally-append (of_reply froze) ab.more bc.more, ab.unfrozen, bc.unfrozen);
+  inserts = InsertsFor-append goal ab.more bc.more ab.inserts bc.inserts;
   below = AreBelow-append n ab.more bc.more ab.below bc.below;
   in_order = all_brought-append ab.more bc.more ∙ ap (λ (x : List (ℕ × ℕ)). x ++ all_brought bc.more) ab.in_order ∙ ap (λ (x : List (ℕ × ℕ)). fs ++ x) bc.in_order;
 }
 
--- one insert
-pub Brings-one : (n : ℕ) (a b : List Entry) (number g : ℕ) (row : Row) (answer : Inserted) → g < n → b ≡ a ++ entry number (Insert g row) (insert_reply answer) ∷ [] → Brings n a b ((g, row.0) ∷ [])
-unfolding all_brought AreBelow tally
-Brings-one n a b number g row answer below is = record {
+-- one insert, which doesn't reach the goal
+pub Brings-insert : (n : ℕ) (goal : Option ℕ) (a b : List Entry) (number g : ℕ) (row : Row) (answer : Inserted) → g < n → reaches goal answer ≡ false
+    → b ≡ a ++ entry number (Insert g row) (insert_reply answer) ∷ [] → Brings n goal a b ((g, row.0) ∷ [])
+unfolding all_brought AreBelow
+Brings-insert n goal a b number g row answer below short is = record {
   more = entry number (Insert g row) (insert_reply answer) ∷ [];
   goes_on = is;
-  inserts = EachCall-one is_insert (entry number (Insert g row) (insert_reply answer)) refl;
-  unfrozen = omega (arith, insert_unfrozen answer);
+  inserts = inserts_alone goal number g row answer short;
   below = (below, tt);
   in_order = refl;
 }
+
+-- one that reaches it, and the freeze after it
+pub Brings-freeze : (n : ℕ) (goal : Option ℕ) (a b c : List Entry) (number number' g : ℕ) (row : Row) (answer : Inserted) (reply : Reply) → g < n → reaches goal answer ≡ true
+    → b ≡ a ++ entry number (Insert g row) (insert_reply answer) ∷ [] → c ≡ b ++ entry number' (Freeze g) reply ∷ [] → Brings n goal a c ((g, row.0) ∷ [])
+unfolding all_brought AreBelow
+Brings-freeze n goal a b c number number' g row answer reply below there is freeze =
+    let e = entry number (Insert g row) (insert_reply answer) in
+    let f = entry number' (Freeze g) reply in
+    record {
+      more = e ∷ f ∷ [];
+      goes_on = freeze ∙ ap (λ (x : List Entry). x ++ f ∷ []) is ∙ append_assoc a (e ∷ []) (f ∷ []);
+      inserts = inserts_to_goal goal number number' g row answer reply there;
+      below = (below, (below, tt));
+      in_order = refl;
+    }

@@ -1,12 +1,10 @@
 -- Totals, one answer after another.
-use Rattle.std.proofs.Common.{◌≡◌, ℕ, ◌+◌, ◌≤◌, ◌==◌, Bool, true, false, if◌then◌else◌, List, [], ◌∷◌, ◌++◌, refl, sym, ap, ◌∙◌, subst, arith}
+use Rattle.std.proofs.Common.{◌≡◌, ℕ, ◌+◌, ◌≤◌, Bool, true, false, if◌then◌else◌, List, [], ◌∷◌, ◌++◌, refl, sym, ap, ◌∙◌, subst, arith}
 use Rattle.kk_rows.specs.declared.rows.Row.{Row}
 use Rattle.kk_machine.specs.declared.call.Call.TheVariants.{Insert, Freeze}
-use Rattle.kk_machine.specs.declared.call.Reply.{Reply}
 use Rattle.kk_machine.specs.declared.call.Entry.{Entry}
-use Rattle.kk_machine.specs.Spaces.{generation_of}
 use Rattle.kk_machine.specs.History.{entry}
-use Rattle.kk_machine.specs.Inserts.{tally, in_generation, of_reply, inserts, innovative, redundant, late, froze}
+use Rattle.kk_machine.specs.Inserts.{tally, of_reply, inserts, innovative, redundant, late, froze}
 use Rattle.kk_machine.proofs.Tallies.{tally-none, tally-push}
 use Rattle.kk_table.specs.declared.answers.Inserted.{Inserted}
 use Rattle.kk_table.specs.declared.answers.Inserted.TheVariants.{Innovative, Redundant, Late}
@@ -55,14 +53,9 @@ insert_unfrozen Redundant = refl
 insert_unfrozen Late = refl
 
 -- a generation's part of a count
-part : (b : Bool) (n : ℕ) → (if b then n else 0) ≤ n
+pub part : (b : Bool) (n : ℕ) → (if b then n else 0) ≤ n
 part true n = omega arith
 part false n = omega arith
-
-pub in_generation-le : (count : Reply → ℕ) (g : ℕ) (calls : List Entry) → tally (in_generation g count) calls ≤ tally (of_reply count) calls
-unfolding tally
-in_generation-le count g [] = omega arith
-in_generation-le count g (e ∷ es) = omega (arith, part (generation_of e.call == g) (count e.reply), in_generation-le count g es)
 
 pub counted_inserts : (answer : Inserted) (t : Totals) → (counted answer t).inserts ≡ t.inserts + 1
 counted_inserts (Innovative rank) t = refl

@@ -1,17 +1,19 @@
 -- From what was received to the headline.
 use Rattle.std.proofs.Common.{◌≡◌, ℕ, zero, suc, ◌+◌, ◌<◌, true, List, [], ◌∷◌, ◌++◌, map, length, get_or, refl, sym, ap, ◌∙◌, subst, arith, Option, Some, None, ⊎_elim, length-append}
-use Rattle.std.specs.Prelude.{◌≤◌, sum_by, flat_map}
+use Rattle.std.specs.Prelude.{◌≤◌, sum_by, flat_map, All, IfSome}
 use Rattle.std.specs.List.{range_with_len}
 use Rattle.std.proofs.lemmas.List.{length-map, same_lists}
 use Rattle.std.proofs.lemmas.List.FromFn.{length-map-range_with_len, get_or-map-range_with_len}
-use Rattle.std.proofs.lemmas.List.Elements.{Contains-push}
+use Rattle.std.proofs.lemmas.List.Elements.{All-map, All-from_get_or}
 use Rattle.std.proofs.lemmas.List.Sums.{sum_by-cons}
 use Rattle.kk_rows.specs.Span.{in_span}
 use Rattle.kk_rows.proofs.Spans.{same_span_members}
 use Rattle.kk_decode.proofs.Answering.{answer-same_span}
 use Rattle.kk_outside.specs.Change.{Change, change}
 use Rattle.kk_outside.specs.Gate.{GateTold, events_told}
+use Rattle.kk_code.specs.Codeword.{Parameters, IsCode, IsMessage}
 use Rattle.kk_code.specs.Decoding.{answer}
+use Rattle.kk_code.proofs.Enumeration.{answer_is_the_message}
 use Rattle.kk_code.specs.Ticket.{TicketFields, generations}
 use Rattle.kk_frame.specs.declared.frame.TheConstants.{FRAME_BYTES}
 use Rattle.kk_frame.specs.declared.gate_count.GateCount.{GateCount}
@@ -21,25 +23,25 @@ use Rattle.kk_machine.specs.declared.log.Log.{Log}
 use Rattle.kk_machine.specs.declared.call.Entry.{Entry}
 use Rattle.kk_machine.specs.Spaces.{unseen}
 use Rattle.kk_machine.specs.History.{log_of}
-use Rattle.kk_machine.specs.Inserts.{EachCall, AreBelow, is_insert, FrozenBy, tally, of_reply, inserts, innovative, redundant, late, sum_below}
+use Rattle.kk_machine.specs.Inserts.{AreBelow, FrozenBy, tally, of_reply, inserts, innovative, redundant, late, sum_below}
 use Rattle.kk_machine.proofs.Counted.{sum_same}
 use Rattle.kk_machine.proofs.Tallies.{kinds}
 use Rattle.kk_table.specs.declared.view.Known.{Known}
 use Rattle.kk_table.specs.declared.view.Shape.{Shape}
-use Rattle.kk_table.specs.Rule.{sight}
 use Rattle.kk_table.specs.Logs.{IsHistoryOf, IsLogs, log_at}
 use Rattle.kk_workers.specs.declared.plan.Plan.{Plan}
 use Rattle.kk_workers.specs.declared.totals.Totals.{Totals}
 use Rattle.kk_workers.specs.Totals.{totals_in, no_totals}
 use Rattle.kk_workers.specs.Worker.{WorkerView, no_counts}
-use Rattle.kk_workers.specs.Works.{all_brought, InsertsFor}
+use Rattle.kk_workers.specs.Works.{all_brought, InsertsFor, AreAnswers}
 use Rattle.kk_workers.specs.Working.{AreTotals}
+use Rattle.kk_workers.specs.Runs.{closing_answer}
 use Rattle.kk_workers.specs.Headline.{changes, all_taken, IsPassOf, ReceivedView, Headline, AddUp}
 use Rattle.kk_workers.specs.Receiving.{IsDone, IsReceived}
 use Rattle.kk_workers.proofs.Counting.{same_totals}
 use Rattle.kk_workers.proofs.Bringing.{inserts-brought}
 use Rattle.kk_workers.proofs.Works.{fault_exactly}
-use Rattle.kk_workers.proofs.Frozen.{IsRun, sum_list, frozen, rows_of_all, all_open, rows_of_all-brought, counted_all, nobody_late, innovative_all}
+use Rattle.kk_workers.proofs.Frozen.{IsRun, AreKept, sum_list, frozen, rows_of_all-brought, counted_all, nobody_late, innovative_all, all_closed, answer_closing, open_kept}
 
 -- ---- lists side by side
 
@@ -105,13 +107,15 @@ summed part (w ∷ ws) are =
       sum_by-cons (λ (r : Known). part (totals_in r.calls)) w.pass.known (map (λ w. w.pass.known) ws),
     )
 
+-- an answer is a message
+answer_is_message : (p : Parameters) → IsCode p → (rows : List ℕ) (o : Option (List ℕ)) → answer p rows ≡ o → IfSome o (IsMessage p)
+answer_is_message p code rows None is = tt
+answer_is_message p code rows (Some u) is = ((answer_is_the_message.some p code rows u).0 is).message
+
 -- ---- the run
 
-only_inserts : (goal : Option ℕ) (calls : List Entry) → goal ≡ None → InsertsFor goal calls → EachCall is_insert calls
-only_inserts goal calls none is = subst (λ (o : Option ℕ). InsertsFor o calls) none is
-
 module _ {G : Type 0} (told : G → GateTold) (t : TicketFields) (plan : Plan) (gates gates' : List G) (r : ReceivedView)
-    (no_goal : plan.goal ≡ None) (is : IsReceived told t plan gates gates' r) (logs : IsLogs r.logs.shape r.logs.records r.logs.logs) where
+    (is : IsReceived told t plan gates gates' r) (logs : IsLogs r.logs.shape r.logs.records r.logs.logs) where
   known : WorkerView G → Known
   known w = w.pass.known
 
@@ -140,16 +144,34 @@ module _ {G : Type 0} (told : G → GateTold) (t : TicketFields) (plan : Plan) (
       let w = first_of is.workers i in_ws in
       (get_or gates i w.gate, get_or is.workers i w, map_at (λ (w : WorkerView G). w.pass.known) is.workers i d w in_ws, is.done i w.gate w (omega (arith, near, long)))
 
-  run : IsRun n records closing
+  run : IsRun n plan.goal records closing
   run = record {
     numbers = λ i d near. let x = worker_at i d near in ap (λ (k : Known). k.number) x.2 ∙ x.3.number;
-    inserts = λ i d near. let x = worker_at i d near in subst (EachCall is_insert) (sym (ap (λ (k : Known). k.calls) x.2)) (only_inserts plan.goal x.1.pass.known.calls no_goal x.3.worked.inserts);
+    inserts = λ i d near. let x = worker_at i d near in subst (InsertsFor plan.goal) (sym (ap (λ (k : Known). k.calls) x.2)) x.3.worked.inserts;
     below = λ i d near. let x = worker_at i d near in subst (AreBelow n) (sym (ap (λ (k : Known). k.calls) x.2)) x.3.worked.below;
     number = is.number ∙ ap (λ (m : ℕ). m + 1) (sym long);
     note = is.note;
     freezes = is.closes.freezes;
     closing_below = is.closes.below;
     no_inserts = is.closes.totals;
+  }
+
+  abbrev kept : List (List (Option (Option (List ℕ))))
+  kept = map (λ (w : WorkerView G). w.answers) is.workers
+
+  keeps : AreKept t.code n records kept
+  keeps = record {
+    all = length-map is.workers (λ (w : WorkerView G). w.answers) ∙ sym (length-map is.workers (λ (w : WorkerView G). w.pass.known));
+    each = λ i d room near.
+        let in_ws : i < length is.workers = omega (arith, near, long, is.count) in
+        let w = first_of is.workers i in_ws in
+        let me = get_or is.workers i w in
+        let done = is.done i w.gate w (omega (arith, near, long)) in
+        let room_is : get_or kept i room ≡ me.answers = map_at (λ (w : WorkerView G). w.answers) is.workers i room w in_ws in
+        let known_is : get_or records i d ≡ me.pass.known = map_at (λ (w : WorkerView G). w.pass.known) is.workers i d w in_ws in (
+          ap (λ (x : List (Option (Option (List ℕ)))). length x) room_is ∙ done.all_answers,
+          subst (λ (k : Known). AreAnswers t.code k (get_or kept i room)) (sym known_is) (subst (AreAnswers t.code me.pass.known) (sym room_is) done.answers),
+        );
   }
 
   history : IsHistoryOf r.logs.shape (records ++ closing ∷ []) (log_at r.logs.logs) h
@@ -193,19 +215,16 @@ module _ {G : Type 0} (told : G → GateTold) (t : TicketFields) (plan : Plan) (
   -- ---- the logs
 
   closed : (g : ℕ) → g < n → (log_at r.logs.logs g).closed ≡ true
-  closed g near =
-      let shut = is.closes.closed g near in
-      ap (λ (x : Log). x.closed) ((history.seen closing (Contains-push records closing) g (omega (arith, near, many))).whole shut) ∙ shut
+  closed = all_closed r.logs.shape n plan.goal records closing (log_at r.logs.logs) h run history t.code kept many keeps is.closes
 
   frozen_all : (g : ℕ) → g < n → FrozenBy (log_at r.logs.logs g).rows (rows_of g (all_taken t plan.limits (changes told gates gates'))) plan.goal
   frozen_all g near =
-      let f : FrozenBy (log_at r.logs.logs g).rows (rows_of_all g records) None = frozen r.logs.shape n records closing (log_at r.logs.logs) h run history g (omega (arith, near, many)) in
-      subst (FrozenBy (log_at r.logs.logs g).rows (rows_of g (all_taken t plan.limits (changes told gates gates')))) (sym no_goal)
-      (subst (λ (rows : List ℕ). FrozenBy (log_at r.logs.logs g).rows rows None) (rows_of_all-brought g records ∙ ap (rows_of g) frames) f)
+      subst (λ (rows : List ℕ). FrozenBy (log_at r.logs.logs g).rows rows plan.goal) (rows_of_all-brought g records ∙ ap (rows_of g) frames)
+      (frozen r.logs.shape n plan.goal records closing (log_at r.logs.logs) h run history g (omega (arith, near, many)))
 
   decoded : r.answers ≡ map (λ l. answer t.code l.rows) r.logs.logs
   decoded =
-      let f = λ (g : ℕ). answer t.code (sight closing g).rows in
+      let f = closing_answer t.code kept closing in
       let a = λ (l : Log). answer t.code l.rows in
       let all : length r.logs.logs ≡ n = logs.all ∙ many in
       is.answers ∙ same_lists (map f (range_with_len 0 n)) (map a r.logs.logs)
@@ -213,8 +232,13 @@ module _ {G : Type 0} (told : G → GateTold) (t : TicketFields) (plan : Plan) (
       (λ g d near.
       let below : g < n = omega (arith, near, length-map-range_with_len f 0 n) in
       get_or-map-range_with_len f 0 n g g d below (omega arith)
-      ∙ ap a (sym ((history.seen closing (Contains-push records closing) g (omega (arith, below, many))).whole (is.closes.closed g below)))
+      ∙ answer_closing r.logs.shape n plan.goal records closing (log_at r.logs.logs) h run history t.code kept many keeps is.closes g below
       ∙ sym (map_at a r.logs.logs g d unseen (omega (arith, below, all))))
+
+  messages : All (λ (a : Option (List ℕ)). IfSome a (IsMessage t.code)) r.answers
+  messages = subst (All (λ (a : Option (List ℕ)). IfSome a (IsMessage t.code))) (sym decoded)
+      (All-map (λ (a : Option (List ℕ)). IfSome a (IsMessage t.code)) (λ (l : Log). answer t.code l.rows) r.logs.logs
+      (All-from_get_or (λ (l : Log). IfSome (answer t.code l.rows) (IsMessage t.code)) r.logs.logs unseen (λ i near. answer_is_message t.code is.code (get_or r.logs.logs i unseen).rows (answer t.code (get_or r.logs.logs i unseen).rows) refl)))
 
   -- ---- the totals
 
@@ -226,7 +250,7 @@ module _ {G : Type 0} (told : G → GateTold) (t : TicketFields) (plan : Plan) (
   part_all part f same none =
       summed part is.workers are_totals
       ∙ same_sums (λ (k : Known). part (totals_in k.calls)) (λ (k : Known). tally f k.calls) records (λ k. same k.calls)
-      ∙ sym (counted_all r.logs.shape n records closing (log_at r.logs.logs) h run history f (sym (same closing.calls) ∙ ap part is.closes.totals ∙ none))
+      ∙ sym (counted_all r.logs.shape n plan.goal records closing (log_at r.logs.logs) h run history f (sym (same closing.calls) ∙ ap part is.closes.totals ∙ none))
 
   totals : r.totals ≡ totals_in h
   totals = is.totals_are ∙ same_totals
@@ -248,28 +272,28 @@ module _ {G : Type 0} (told : G → GateTold) (t : TicketFields) (plan : Plan) (
     one_each = long ∙ sym (length-changes told gates gates' same_length);
     counted = one_count_each ∙ sym (length-changes told gates gates' same_length);
     passes = passes;
-    closes = record { number = run.number; note = is.note; freezes = is.closes.freezes; in_order = is.closes.in_order ∙ sym (all_open n records run.inserts) };
+    closes = record { number = run.number; note = is.note; freezes = is.closes.freezes; in_order = is.closes.in_order ∙ open_kept r.logs.shape n plan.goal records closing (log_at r.logs.logs) h run history t.code kept many keeps is.closes };
     history = h;
     is_history = logs.is_history;
     totals = totals;
     closed = closed;
     frozen = frozen_all;
-    nobody_late = λ none. ap (λ (x : Totals). x.late) totals ∙ nobody_late r.logs.shape n records closing (log_at r.logs.logs) h run history;
+    nobody_late = λ none. ap (λ (x : Totals). x.late) totals ∙ nobody_late r.logs.shape n plan.goal records closing (log_at r.logs.logs) h run history none;
     answers = decoded;
-    messages = is.messages;
+    messages = messages;
   }
 
   pub add_up : AddUp t plan (changes told gates gates') r
   add_up = record {
     inserts =
         ap (λ (x : Totals). x.inserts) totals
-        ∙ counted_all r.logs.shape n records closing (log_at r.logs.logs) h run history inserts (ap (λ (x : Totals). x.inserts) is.closes.totals)
+        ∙ counted_all r.logs.shape n plan.goal records closing (log_at r.logs.logs) h run history inserts (ap (λ (x : Totals). x.inserts) is.closes.totals)
         ∙ same_sums (λ (k : Known). tally inserts k.calls) (λ (k : Known). length (all_brought k.calls)) records (λ k. inserts-brought k.calls)
         ∙ sym (length-parts (λ (k : Known). all_brought k.calls) records)
         ∙ ap (λ (fs : List (ℕ × ℕ)). length fs) frames;
     innovative =
         ap (λ (x : Totals). x.innovative) totals
-        ∙ innovative_all r.logs.shape n records closing (log_at r.logs.logs) h run history
+        ∙ innovative_all r.logs.shape n plan.goal records closing (log_at r.logs.logs) h run history
         ∙ sum_same n (λ g. length (log_of g h).rows) (λ g. length (log_at r.logs.logs g).rows) (λ g near. ap (λ (l : Log). length l.rows) (history.logs_are g (omega (arith, near, many))))
         ∙ sum_logs n r.logs.logs (logs.all ∙ many);
     kinds = ap (λ (x : Totals). x.inserts) totals ∙ kinds h history.legal ∙ sym (ap (λ (x : Totals). x.innovative + x.redundant + x.late) totals);

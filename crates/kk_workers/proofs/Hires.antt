@@ -1,7 +1,7 @@
 -- Workers one after another.
-use Rattle.std.proofs.Common.{◌≡◌, ℕ, zero, suc, ◌+◌, ◌<◌, List, [], ◌∷◌, ◌++◌, length, take, drop, get_or, refl, sym, ap, ◌∙◌, arith}
+use Rattle.std.proofs.Common.{◌≡◌, ℕ, zero, suc, ◌+◌, ◌<◌, List, [], ◌∷◌, ◌++◌, length, map, take, drop, get_or, refl, sym, ap, ◌∙◌, arith}
 use Rattle.std.specs.List.{remove}
-use Rattle.std.proofs.lemmas.List.{take_more, get_or-drop, length-take-le}
+use Rattle.std.proofs.lemmas.List.{map-append, take_more, get_or-drop, length-take-le}
 use Rattle.kk_table.specs.Table.{TableView}
 use Rattle.kk_workers.specs.Worker.{WorkerView, new_worker}
 use Rattle.kk_workers.specs.Runs.{pass_of, hired}
@@ -50,3 +50,8 @@ unfolding hired
 hired-at table n k [] i d w h = absurd (omega (arith, h))
 hired-at table n k (x ∷ xs) zero d w h = ap (λ (m : ℕ). new_worker n (pass_of table m) x) (omega arith)
 hired-at table n k (x ∷ xs) (suc i) d w h = hired-at table n (k + 1) xs i d w (omega (arith, h)) ∙ ap (λ (m : ℕ). new_worker n (pass_of table m) (get_or xs i d)) (omega arith)
+
+-- what is told of one more
+pub map-next : {X Y : Type 0} (f : X → Y) (xs : List X) (i : ℕ) (x : X) (ys : List Y) (y : Y) → i < length xs → x ≡ get_or (drop i xs) 0 x → ys ≡ map f (take i xs) → y ≡ f x
+    → ys ++ y ∷ [] ≡ map f (take (i + 1) xs)
+map-next f xs i x ys y near is before same = (λ k. before k ++ same k ∷ []) ∙ sym (ap (map f) (take-first xs i x near is) ∙ map-append f (take i xs) (x ∷ []))

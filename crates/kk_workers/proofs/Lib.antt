@@ -1,6 +1,9 @@
 pub mod Counting
+pub mod Goals
+pub mod Firsts
 pub mod Bringing
 pub mod Works
+pub mod Kept
 pub mod Hires
 pub mod Closings
 pub mod Stations

@@ -1,8 +1,8 @@
 -- A worker's gate, one answer after another.
-use Rattle.std.proofs.Common.{◌≡◌, ◌↔◌, ◌⊎◌, ℕ, ◌+◌, ◌*◌, ◌-◌, ◌^◌, ◌<◌, ◌≤◌, min, true, false, List, [], ◌∷◌, ◌++◌, length, drop, get_or, replicate, Option, Some, None, Ok, Err, take, refl, sym, ap, ◌∙◌, subst, append-nil, append_assoc, length-append, ⊎_elim, inl, inr, true≢false, arith}
+use Rattle.std.proofs.Common.{◌≡◌, ◌↔◌, ◌⊎◌, ℕ, ◌+◌, ◌*◌, ◌-◌, ◌^◌, ◌<◌, ◌≤◌, min, true, false, List, [], ◌∷◌, ◌++◌, length, drop, Option, Some, None, Ok, Err, take, refl, sym, ap, ◌∙◌, subst, append-nil, append_assoc, length-append, ⊎_elim, inl, inr, true≢false, arith}
 use Rattle.std.specs.Prelude.{is_none, unwrap_or}
 use Rattle.std.proofs.lemmas.Option.{same_Some}
-use Rattle.std.proofs.lemmas.List.{drop_at, get_or-replicate, length-replicate}
+use Rattle.std.proofs.lemmas.List.{drop_at}
 use Rattle.kk_outside.specs.Causes.{CanCount, Rose}
 use Rattle.kk_outside.specs.Change.{Change, change}
 use Rattle.kk_outside.specs.Gate.{GateTold, TellsFrom, prepend_events, events_of_got, events_told, GateFailed}
@@ -10,8 +10,6 @@ use Rattle.kk_outside.specs.declared.got.Got.{Got}
 use Rattle.kk_outside.specs.declared.got.Got.TheVariants as got
 use Rattle.kk_outside.specs.declared.event.Event.TheVariants.{Datagram, Quiet, Fault}
 use Rattle.kk_outside.specs.declared.event.Event.{Event}
-use Rattle.kk_code.specs.Codeword.{Parameters}
-use Rattle.kk_code.specs.Decoding.{answer}
 use Rattle.kk_code.specs.Ticket.{TicketFields, generations}
 use Rattle.kk_frame.specs.declared.frame.TheConstants.{FRAME_BYTES}
 use Rattle.kk_frame.specs.declared.limits.Limits.{Limits}
@@ -23,13 +21,11 @@ use Rattle.kk_frame.specs.Events.{all_readings, end_with, counts_over, stop, tak
 use Rattle.kk_frame.specs.Intake.{IntakeState, IsIntake, IsAfter, is_running, calls_left}
 use Rattle.kk_frame.proofs.Intakes.{ended_tells, ended_stops, taken-none}
 use Rattle.kk_machine.specs.declared.call.Entry.{Entry}
-use Rattle.kk_machine.specs.Inserts.{tally, of_reply, froze, is_insert, EachCall, AreBelow}
-use Rattle.kk_table.specs.declared.view.Known.{Known}
+use Rattle.kk_machine.specs.Inserts.{AreBelow}
 use Rattle.kk_workers.specs.declared.plan.Plan.{Plan}
 use Rattle.kk_workers.specs.declared.totals.Totals.{Totals}
-use Rattle.kk_workers.specs.Works.{all_brought, InsertsFor, AreAnswers, Takes, Worked, FaultCause}
+use Rattle.kk_workers.specs.Works.{all_brought, InsertsFor, Takes, Worked, FaultCause}
 use Rattle.kk_workers.specs.Working.{Brings, AreTotals, IsAtEnd, Follows, Asked, Working}
-use Rattle.kk_workers.proofs.Counting.{in_generation-le}
 use Rattle.kk_workers.proofs.Bringing.{Brings-nothing, Brings-append, inserts-brought}
 
 -- ---- events told
@@ -52,22 +48,22 @@ runs_on : (t : TicketFields) (left : Option (List Event)) (events : List Event) 
 runs_on t left events s on (inl after) = after
 runs_on t left events s on (inr end) = absurd (true≢false (sym on ∙ ap is_none end.ended))
 
-pub Working-start : (t : TicketFields) (limits : Limits) (now : GateTold) (s : IntakeState) (calls : List Entry) → IsAfter t [] s → s.limits ≡ limits → calls_left s ≡ (limits.most + 1) * limits.idle → calls ≡ [] → Working t limits (change now now) s calls
-Working-start t limits now s calls after limited left none = record {
+pub Working-start : (t : TicketFields) (plan : Plan) (now : GateTold) (s : IntakeState) (calls : List Entry) → IsAfter t [] s → s.limits ≡ plan.limits → calls_left s ≡ (plan.limits.most + 1) * plan.limits.idle → calls ≡ [] → Working t plan (change now now) s calls
+Working-start t plan now s calls after limited left none = record {
   events = [];
   limited = limited;
   logged = sym (append-nil now.events);
   left = prepend_nothing now.left;
   few = omega (arith, left);
   follows = inl after;
-  brings = subst (λ (b : List Entry). Brings (generations t) [] b (taken FRAME_BYTES t limits [])) (sym none)
-      (subst (Brings (generations t) [] []) (sym (taken-none FRAME_BYTES t limits)) (Brings-nothing (generations t) []));
+  brings = subst (λ (b : List Entry). Brings (generations t) plan.goal [] b (taken FRAME_BYTES t plan.limits [])) (sym none)
+      (subst (Brings (generations t) plan.goal [] []) (sym (taken-none FRAME_BYTES t plan.limits)) (Brings-nothing (generations t) plan.goal []));
 }
 
-pub Working-more : (t : TicketFields) (limits : Limits) (start now end : GateTold) (s s' : IntakeState) (calls calls' : List Entry) → is_running s ≡ true → Working t limits (change start now) s calls → Asked t (change now end) s s' calls calls' → Working t limits (change start end) s' calls'
-Working-more t limits start now end s s' calls calls' on w asked =
+pub Working-more : (t : TicketFields) (plan : Plan) (start now end : GateTold) (s s' : IntakeState) (calls calls' : List Entry) → is_running s ≡ true → Working t plan (change start now) s calls → Asked t plan.goal (change now end) s s' calls calls' → Working t plan (change start end) s' calls'
+Working-more t plan start now end s s' calls calls' on w asked =
     let after : IsAfter t w.events s = runs_on t now.left w.events s on w.follows in
-    let frames : taken FRAME_BYTES t limits (w.events ++ asked.events) ≡ taken FRAME_BYTES t limits w.events ++ asked.frames =
+    let frames : taken FRAME_BYTES t plan.limits (w.events ++ asked.events) ≡ taken FRAME_BYTES t plan.limits w.events ++ asked.frames =
     subst (λ (l : Limits). taken FRAME_BYTES t l (w.events ++ asked.events) ≡ taken FRAME_BYTES t l w.events ++ asked.frames) w.limited (asked.takes w.events after) in
     record {
       events = w.events ++ asked.events;
@@ -76,18 +72,18 @@ Working-more t limits start now end s s' calls calls' on w asked =
       left = w.left ∙ ap (prepend_events w.events) asked.left ∙ prepend_both w.events asked.events end.left;
       few = omega (arith, length-append w.events asked.events, asked.one, asked.sooner, w.few);
       follows = asked.follows w.events after;
-      brings = subst (Brings (generations t) [] calls') (sym frames) (Brings-append (generations t) [] calls calls' (taken FRAME_BYTES t limits w.events) asked.frames w.brings asked.brings);
+      brings = subst (Brings (generations t) plan.goal [] calls') (sym frames) (Brings-append (generations t) plan.goal [] calls calls' (taken FRAME_BYTES t plan.limits w.events) asked.frames w.brings asked.brings);
     }
 
 -- ---- one answer
 
 -- an event, and the frames of a datagram
-Asked-event : (t : TicketFields) (gate : Change GateTold) (s s' : IntakeState) (calls calls' : List Entry) (e : Event) (frames : List (ℕ × ℕ))
+Asked-event : (t : TicketFields) (goal : Option ℕ) (gate : Change GateTold) (s s' : IntakeState) (calls calls' : List Entry) (e : Event) (frames : List (ℕ × ℕ))
     → gate.new.events ≡ gate.old.events ++ e ∷ [] → gate.old.left ≡ prepend_events (e ∷ []) gate.new.left → s'.limits ≡ s.limits → calls_left s' < calls_left s
     → ((before : List Event) → IsAfter t before s → IsAfter t (before ++ e ∷ []) s')
     → ((before : List Event) → IsAfter t before s → taken FRAME_BYTES t s.limits (before ++ e ∷ []) ≡ taken FRAME_BYTES t s.limits before ++ frames)
-    → Brings (generations t) calls calls' frames → Asked t gate s s' calls calls'
-Asked-event t gate s s' calls calls' e frames logged left limits sooner after takes brings = record {
+    → Brings (generations t) goal calls calls' frames → Asked t goal gate s s' calls calls'
+Asked-event t goal gate s s' calls calls' e frames logged left limits sooner after takes brings = record {
   events = e ∷ [];
   frames = frames;
   one = omega arith;
@@ -100,42 +96,42 @@ Asked-event t gate s s' calls calls' e frames logged left limits sooner after ta
   brings = brings;
 }
 
-pub Asked-datagram : {E : Type 0} (t : TicketFields) (gate : Change GateTold) (s s' : IntakeState) (calls calls' : List Entry) (answer : Got) (n : ℕ) (buf : List ℕ) (frames : List (ℕ × ℕ))
+pub Asked-datagram : {E : Type 0} (t : TicketFields) (goal : Option ℕ) (gate : Change GateTold) (s s' : IntakeState) (calls calls' : List Entry) (answer : Got) (n : ℕ) (buf : List ℕ) (frames : List (ℕ × ℕ))
     → TellsFrom {E = E} gate (Ok answer) buf → answer ≡ got.Datagram n → s'.limits ≡ s.limits → calls_left s' < calls_left s
     → ((before : List Event) → IsAfter t before s → IsAfter t (before ++ Datagram (take n buf) ∷ []) s')
     → ((before : List Event) → IsAfter t before s → taken FRAME_BYTES t s.limits (before ++ Datagram (take n buf) ∷ []) ≡ taken FRAME_BYTES t s.limits before ++ frames)
-    → Brings (generations t) calls calls' frames → Asked t gate s s' calls calls'
-Asked-datagram t gate s s' calls calls' answer n buf frames tells is limits sooner after takes brings =
+    → Brings (generations t) goal calls calls' frames → Asked t goal gate s s' calls calls'
+Asked-datagram t goal gate s s' calls calls' answer n buf frames tells is limits sooner after takes brings =
     let told : events_of_got answer buf ≡ Datagram (take n buf) ∷ [] = ap (λ (a : Got). events_of_got a buf) is in
-    Asked-event t gate s s' calls calls' (Datagram (take n buf)) frames
+    Asked-event t goal gate s s' calls calls' (Datagram (take n buf)) frames
     (tells.logged ∙ ap (λ (x : List Event). gate.old.events ++ x) told) (tells.first ∙ ap (λ (x : List Event). prepend_events x gate.new.left) told) limits sooner after takes brings
 
-pub Asked-quiet : {E : Type 0} (t : TicketFields) (gate : Change GateTold) (s s' : IntakeState) (calls : List Entry) (answer : Got) (buf : List ℕ)
+pub Asked-quiet : {E : Type 0} (t : TicketFields) (goal : Option ℕ) (gate : Change GateTold) (s s' : IntakeState) (calls : List Entry) (answer : Got) (buf : List ℕ)
     → TellsFrom {E = E} gate (Ok answer) buf → answer ≡ got.Quiet → s'.limits ≡ s.limits → calls_left s' < calls_left s
     → ((u : TicketFields) (before : List Event) → IsAfter u before s → IsAfter u (before ++ Quiet ∷ []) s')
     → ((u : TicketFields) (before : List Event) → IsAfter u before s → taken FRAME_BYTES u s.limits (before ++ Quiet ∷ []) ≡ taken FRAME_BYTES u s.limits before)
-    → Asked t gate s s' calls calls
-Asked-quiet t gate s s' calls answer buf tells is limits sooner after takes =
+    → Asked t goal gate s s' calls calls
+Asked-quiet t goal gate s s' calls answer buf tells is limits sooner after takes =
     let told : events_of_got answer buf ≡ Quiet ∷ [] = ap (λ (a : Got). events_of_got a buf) is in
-    Asked-event t gate s s' calls calls Quiet []
+    Asked-event t goal gate s s' calls calls Quiet []
     (tells.logged ∙ ap (λ (x : List Event). gate.old.events ++ x) told) (tells.first ∙ ap (λ (x : List Event). prepend_events x gate.new.left) told) limits sooner (after t)
-    (λ before now. takes t before now ∙ sym (append-nil (taken FRAME_BYTES t s.limits before))) (Brings-nothing (generations t) calls)
+    (λ before now. takes t before now ∙ sym (append-nil (taken FRAME_BYTES t s.limits before))) (Brings-nothing (generations t) goal calls)
 
-pub Asked-fault : {E : Type 0} (t : TicketFields) (gate : Change GateTold) (s s' : IntakeState) (calls : List Entry) (e : E) (buf : List ℕ)
+pub Asked-fault : {E : Type 0} (t : TicketFields) (goal : Option ℕ) (gate : Change GateTold) (s s' : IntakeState) (calls : List Entry) (e : E) (buf : List ℕ)
     → TellsFrom {E = E} gate (Err e) buf → s'.limits ≡ s.limits → calls_left s' < calls_left s
     → ((u : TicketFields) (before : List Event) → IsAfter u before s → IsAfter u (before ++ Fault ∷ []) s')
     → ((u : TicketFields) (before : List Event) → IsAfter u before s → taken FRAME_BYTES u s.limits (before ++ Fault ∷ []) ≡ taken FRAME_BYTES u s.limits before)
-    → Asked t gate s s' calls calls
-Asked-fault t gate s s' calls e buf tells limits sooner after takes =
-    Asked-event t gate s s' calls calls Fault [] tells.logged tells.first limits sooner (after t)
-    (λ before now. takes t before now ∙ sym (append-nil (taken FRAME_BYTES t s.limits before))) (Brings-nothing (generations t) calls)
+    → Asked t goal gate s s' calls calls
+Asked-fault t goal gate s s' calls e buf tells limits sooner after takes =
+    Asked-event t goal gate s s' calls calls Fault [] tells.logged tells.first limits sooner (after t)
+    (λ before now. takes t before now ∙ sym (append-nil (taken FRAME_BYTES t s.limits before))) (Brings-nothing (generations t) goal calls)
 
 -- no event, as there are no more
-pub Asked-over : {E : Type 0} (t : TicketFields) (gate : Change GateTold) (s s' : IntakeState) (calls : List Entry) (answer : Got) (buf : List ℕ)
+pub Asked-over : {E : Type 0} (t : TicketFields) (goal : Option ℕ) (gate : Change GateTold) (s s' : IntakeState) (calls : List Entry) (answer : Got) (buf : List ℕ)
     → TellsFrom {E = E} gate (Ok answer) buf → answer ≡ got.Over → s'.limits ≡ s.limits → calls_left s' < calls_left s
     → ((u : TicketFields) (before : List Event) → IsAfter u before s → s'.counts ≡ counts FRAME_BYTES u s.limits before) → s'.counts.ended ≡ Some ended.Over
-    → Asked t gate s s' calls calls
-Asked-over t gate s s' calls answer buf tells is limits sooner counting end =
+    → Asked t goal gate s s' calls calls
+Asked-over t goal gate s s' calls answer buf tells is limits sooner counting end =
     let told : events_of_got answer buf ≡ [] = ap (λ (a : Got). events_of_got a buf) is in
     record {
       events = [];
@@ -152,7 +148,7 @@ Asked-over t gate s s' calls answer buf tells is limits sooner counting end =
         over = tells.over told;
       }));
       takes = λ before after. ap (taken FRAME_BYTES t s.limits) (append-nil before) ∙ sym (append-nil (taken FRAME_BYTES t s.limits before));
-      brings = Brings-nothing (generations t) calls;
+      brings = Brings-nothing (generations t) goal calls;
     }
 
 -- ---- at the end
@@ -190,11 +186,8 @@ known_stop t events all s old (Some rest) off follows left is =
     let parts : all ≡ events ++ rest = same_Some all (events ++ rest) (sym is ∙ left) in
     ap (stop FRAME_BYTES t s.limits) parts ∙ stops_at t events rest s off follows
 
-inserts_for : (goal : Option ℕ) (calls : List Entry) → goal ≡ None → EachCall is_insert calls → InsertsFor goal calls
-inserts_for goal calls none each = subst (λ (o : Option ℕ). InsertsFor o calls) (sym none) each
-
-pub Worked-end : (t : TicketFields) (plan : Plan) (gate : Change GateTold) (s : IntakeState) (calls : List Entry) → is_running s ≡ false → plan.goal ≡ None → Working t plan.limits gate s calls → Worked t plan gate s.counts calls
-Worked-end t plan gate s calls off no_goal w =
+pub Worked-end : (t : TicketFields) (plan : Plan) (gate : Change GateTold) (s : IntakeState) (calls : List Entry) → is_running s ≡ false → Working t plan gate s calls → Worked t plan gate s.counts calls
+Worked-end t plan gate s calls off w =
     let told : events_told gate ≡ w.events = told_are gate w.events w.logged in
     let stopped : stop FRAME_BYTES t plan.limits w.events ≡ w.events = subst (λ (l : Limits). stop FRAME_BYTES t l w.events ≡ w.events) w.limited (stopped_at t gate.new.left w.events s off w.follows) in
     let takes : Takes t plan.limits w.events s.counts calls = record {
@@ -210,7 +203,7 @@ Worked-end t plan gate s calls off no_goal w =
       known = λ all is.
           let at : stop FRAME_BYTES t plan.limits all ≡ w.events = subst (λ (l : Limits). stop FRAME_BYTES t l all ≡ w.events) w.limited (known_stop t w.events all s gate.old.left gate.new.left off w.follows w.left is) in
           (at ∙ sym told, Takes-stop t plan.limits all w.events s.counts calls at stopped takes);
-      inserts = inserts_for plan.goal calls no_goal (subst (EachCall is_insert) (sym w.brings.goes_on) w.brings.inserts);
+      inserts = subst (InsertsFor plan.goal) (sym w.brings.goes_on) w.brings.inserts;
       below = subst (AreBelow (generations t)) (sym w.brings.goes_on) w.brings.below;
     }
 
@@ -220,12 +213,12 @@ counted_frames : (t : TicketFields) (left : Option (List Event)) (events : List 
 counted_frames t left events s (inl after) = ap (λ (c : GateCount). c.frames) after.counts
 counted_frames t left events s (inr end) = ap (λ (c : GateCount). c.frames) end.counts
 
-pub few_inserts : (t : TicketFields) (limits : Limits) (gate : Change GateTold) (s : IntakeState) (calls : List Entry) (totals : Totals) → limits.most < 2 ^ 32 → IsIntake s → Working t limits gate s calls → AreTotals totals calls → totals.inserts ≤ 2 ^ 39
-few_inserts t limits gate s calls totals small intake w are =
+pub few_inserts : (t : TicketFields) (plan : Plan) (gate : Change GateTold) (s : IntakeState) (calls : List Entry) (totals : Totals) → plan.limits.most < 2 ^ 32 → IsIntake s → Working t plan gate s calls → AreTotals totals calls → totals.inserts ≤ 2 ^ 39
+few_inserts t plan gate s calls totals small intake w are =
     let all : totals.inserts ≡ s.counts.frames =
     ap (λ (x : Totals). x.inserts) are.are ∙ inserts-brought calls ∙ ap (λ (es : List Entry). length (all_brought es)) w.brings.goes_on ∙ ap length w.brings.in_order
     ∙ ap (λ (l : Limits). length (taken FRAME_BYTES t l w.events)) (sym w.limited) ∙ sym (counted_frames t gate.new.left w.events s w.follows) in
-    let most : s.limits.most ≡ limits.most = ap (λ (l : Limits). l.most) w.limited in
+    let most : s.limits.most ≡ plan.limits.most = ap (λ (l : Limits). l.most) w.limited in
     omega (arith, all, most, small, intake.frames, intake.datagrams)
 
 -- ---- causes
@@ -253,13 +246,4 @@ pub fault_exactly : (gate : Change GateTold) (counted : GateCount) → FaultCaus
 fault_exactly gate counted cause can = (
   λ is. rose_above gate.old.faults gate.new.faults can (cause.rose is),
   λ rose. ⊎_elim (λ is. is) (λ no. absurd (omega (arith, cause.kept no, rose))) (fault_or_not counted.ended),
-)
-
--- ---- answers
-
--- who froze nothing has no answers
-pub no_answers_kept : (p : Parameters) (k : Known) (n : ℕ) (answers : List (Option (Option (List ℕ)))) → tally (of_reply froze) k.calls ≡ 0 → answers ≡ replicate n None → AreAnswers p k answers
-no_answers_kept p k n answers none are = λ g inside. (
-  λ some. absurd (omega (arith, some, none, in_generation-le froze g k.calls)),
-  λ nothing. ap (λ (x : List (Option (Option (List ℕ)))). get_or x g None) are ∙ get_or-replicate n g None None (omega (arith, inside, ap length are, length-replicate {A = Option (Option (List ℕ))} n None)),
 )

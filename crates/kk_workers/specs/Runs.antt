@@ -1,8 +1,13 @@
 -- The workers of a receiver, before and after they work, and what is closed after them.
-use Rattle.std.specs.Prelude.{◌≡◌, ℕ, ◌+◌, ◌^◌, ◌<◌, ◌≤◌, true, List, [], ◌∷◌, ◌++◌, length, replicate, All, None, vec_capacity}
+use Rattle.std.specs.Prelude.{◌≡◌, ℕ, ◌+◌, ◌^◌, ◌<◌, ◌≤◌, true, List, [], ◌∷◌, ◌++◌, length, map, filter, replicate, slice_index_or, All, Option, None, is_none, unwrap_or, vec_capacity}
 use Rattle.std.specs.List.{range_with_len}
+use Rattle.std.specs.Option.{option_or}
+use Rattle.std.specs.declared.alloc.Global.{Global}
+use Rattle.std.specs.declared.vec.Vec.{Vec}
 use Rattle.kk_outside.specs.Change.{change}
 use Rattle.kk_outside.specs.Gate.{GateTold}
+use Rattle.kk_code.specs.Codeword.{Parameters}
+use Rattle.kk_code.specs.Decoding.{answer}
 use Rattle.kk_code.specs.Ticket.{TicketFields, generations}
 use Rattle.kk_machine.specs.declared.call.Call.{Call}
 use Rattle.kk_machine.specs.declared.call.Call.TheVariants.{Insert, Freeze, Peek}
@@ -61,6 +66,7 @@ pub record Did {G : Type 0} (told : G → GateTold) (t : TicketFields) (plan : P
   pub totals : AreTotals w'.totals w'.pass.known.calls
   pub few : w'.totals.inserts ≤ 2 ^ 39
   pub answers : AreAnswers t.code w'.pass.known w'.answers
+  pub all_answers : length w'.answers ≡ generations t
   pub cause : FaultCause (change (told w.gate) (told w'.gate)) w'.counts
 
 -- ---- closing
@@ -76,10 +82,24 @@ unfoldable pub all_closed_by : List Entry → List ℕ
 all_closed_by [] = []
 all_closed_by (e ∷ es) = closed_by e.call ++ all_closed_by es
 
--- A pass has frozen the first n generations in order and made no other call, and knows them closed.
-pub record Closes (n : ℕ) (k : Known) : Type 0 where
-  pub closed : (g : ℕ) → g < n → (sight k g).closed ≡ true
+-- the answers in these vectors
+abbrev pub lists_in : List (Vec (Option (Option (List ℕ))) Global) → List (List (Option (Option (List ℕ))))
+lists_in rooms = map (λ room. room.items) rooms
+
+-- the answer of the generation that one of these workers kept, if one did
+unfoldable pub kept_answer : List (List (Option (Option (List ℕ)))) → ℕ → Option (Option (List ℕ))
+kept_answer [] g = None
+kept_answer (room ∷ rooms) g = option_or (slice_index_or room g None) (kept_answer rooms g)
+
+-- the answer of the generation: that which a worker kept, or else that of what the closing pass has seen
+abbrev pub closing_answer : Parameters → List (List (Option (Option (List ℕ)))) → Known → ℕ → Option (List ℕ)
+closing_answer p kept k g = unwrap_or (kept_answer kept g) (answer p (sight k g).rows)
+
+-- A pass has frozen those of the first n generations of which no worker kept an answer, in order, and made no other call, and
+-- knows these closed.
+pub record Closes (kept : List (List (Option (Option (List ℕ))))) (n : ℕ) (k : Known) : Type 0 where
+  pub closed : (g : ℕ) → g < n → kept_answer kept g ≡ None → (sight k g).closed ≡ true
   pub freezes : EachCall is_freeze k.calls
-  pub in_order : all_closed_by k.calls ≡ range_with_len 0 n
+  pub in_order : all_closed_by k.calls ≡ filter (λ g. is_none (kept_answer kept g)) (range_with_len 0 n)
   pub totals : totals_in k.calls ≡ no_totals
   pub below : AreBelow n k.calls

@@ -1,5 +1,5 @@
 -- What a worker does with its gate and its pass.
-use Rattle.std.specs.Prelude.{◌≡◌, ℕ, ◌+◌, ◌*◌, ◌<◌, ◌≤◌, List, [], ◌∷◌, ◌++◌, length, slice_index_or, Option, Some, None}
+use Rattle.std.specs.Prelude.{◌≡◌, ℕ, ◌+◌, ◌*◌, ◌<◌, ◌≤◌, ◌==◌, Bool, true, false, List, [], ◌∷◌, ◌++◌, length, slice_index_or, Option, Some, None}
 use Rattle.kk_outside.specs.Causes.{Rose}
 use Rattle.kk_outside.specs.Change.{Change}
 use Rattle.kk_outside.specs.Gate.{GateTold, prepend_events, events_told}
@@ -17,6 +17,8 @@ use Rattle.kk_machine.specs.declared.call.Call.TheVariants.{Insert, Freeze, Peek
 use Rattle.kk_machine.specs.declared.call.Entry.{Entry}
 use Rattle.kk_machine.specs.Inserts.{EachCall, is_insert, tally, in_generation, froze, AreBelow}
 use Rattle.kk_machine.specs.Goals.{AtGoal}
+use Rattle.kk_table.specs.declared.answers.Inserted.{Inserted}
+use Rattle.kk_table.specs.declared.answers.Inserted.TheVariants.{Innovative, Redundant, Late}
 use Rattle.kk_table.specs.declared.view.Known.{Known}
 use Rattle.kk_table.specs.Rule.{sight}
 use Rattle.kk_table.specs.Pass.{PassView}
@@ -40,17 +42,25 @@ abbrev pub InsertsFor : Option ℕ → List Entry → Type 0
 InsertsFor None calls = EachCall is_insert calls
 InsertsFor (Some n) calls = AtGoal n None calls
 
+-- the answer to an insert is innovative with the goal as its rank
+abbrev pub reaches : Option ℕ → Inserted → Bool
+reaches None told = false
+reaches (Some n) (Innovative rank) = rank == n
+reaches (Some n) Redundant = false
+reaches (Some n) Late = false
+
 -- The pass stays at its table, with its number and its note.
 pub record SamePass (p p' : PassView) : Type 0 where
   pub table : p'.table ≡ p.table
   pub number : p'.known.number ≡ p.known.number
   pub note : p'.known.note ≡ p.known.note
 
--- The answer of each generation that this pass froze, as no other did, is kept: that of the rows that it has seen.
+-- The answer of each generation that this pass froze, as no other did, is kept: that of the rows that it has seen, which are
+-- then the whole log.
 abbrev pub AreAnswers : Parameters → Known → List (Option (Option (List ℕ))) → Type 0
 AreAnswers p k answers =
     (g : ℕ) → g < length answers
-    → (0 < tally (in_generation g froze) k.calls → slice_index_or answers g None ≡ Some (answer p (sight k g).rows))
+    → (0 < tally (in_generation g froze) k.calls → (slice_index_or answers g None ≡ Some (answer p (sight k g).rows)) × ((sight k g).closed ≡ true))
     × (tally (in_generation g froze) k.calls ≡ 0 → slice_index_or answers g None ≡ None)
 
 -- ---- the events of a gate

@@ -2,6 +2,8 @@
 #![tactic(auto)]
 
 mod closing;
+mod decoding;
+mod inserter;
 mod plan;
 mod received;
 mod receiving;

@@ -1,5 +1,5 @@
 //! A receiver: all gates at once, then the closing pass.
-ghost use Rattle.std.specs.Prelude.{◌≡◌, ◌≤◌, length, None, IfOk, OnOk, OnErr};
+ghost use Rattle.std.specs.Prelude.{◌≡◌, ◌≤◌, length, IfOk, OnOk, OnErr};
 ghost use Rattle.kk_code.specs.Ticket.{generations};
 ghost use Rattle.kk_workers.specs.Headline.{changes, Headline, AddUp};
 ghost use Rattle.kk_workers.specs.Receiving.{IsReceived};
@@ -16,6 +16,8 @@ use std::thread::Threads;
 
 /// Receives from all gates, each with a worker in a thread of its own, closes what is then open, and decodes each generation.
 ///
+/// With a goal the worker whose insert is told it as rank freezes the generation at once, and decodes it.
+///
 /// # Errors
 ///
 /// [`Alloc`] where there is no memory, before the first call on a gate. After either answer the gates stand in the vector as
@@ -30,7 +32,6 @@ pub fn receive<R: Threads + Sync, G: Gate + Send>(
     requires few { length gates.old.items ≤ 16 }
     requires idle { 1 ≤ plan.now.limits.idle }
     requires most { 1 ≤ plan.now.limits.most }
-    requires no_goal { plan.now.goal ≡ None }
     ensures err { OnErr result (gates.new.items ≡ gates.old.items) }
     ensures same_gates { OnOk result (length gates.new.items ≡ length gates.old.items) }
     ensures one_count_each { IfOk result (λ received. length received.gates ≡ length gates.old.items) }
@@ -54,7 +55,6 @@ fn gather<R: Threads + Sync, G: Gate + Send>(
     requires few { length gates.old.items ≤ 16 }
     requires idle { 1 ≤ plan.now.limits.idle }
     requires most { 1 ≤ plan.now.limits.most }
-    requires no_goal { plan.now.goal ≡ None }
     ensures err { OnErr result (gates.new.items ≡ gates.old.items) }
     ensures received { IfOk result (IsReceived G.told ticket.now plan.now gates.old.items gates.new.items) }
 {
@@ -77,12 +77,19 @@ fn gather<R: Threads + Sync, G: Gate + Send>(
         generations,
     );
     run_all(rt, &mut workers, &table, ticket, plan);
-    let totals = dismiss(&mut founder, &table, &mut workers, gates, &mut counts);
+    let totals = dismiss(
+        &mut founder,
+        &table,
+        &mut workers,
+        gates,
+        &mut counts,
+        &mut rooms,
+    );
     let Ok(mut closing) = founder.pass(alloc, &table) else {
         unreachable!()
     };
-    close_all(&table, &mut closing, generations);
-    decode_all(&ticket.code(), &closing, generations, &mut answers);
+    close_all(&table, &mut closing, generations, &rooms);
+    decode_all(&ticket.code(), &closing, generations, &rooms, &mut answers);
     founder.take_back(&table, closing);
     let Ok(logs) = table.finish(founder) else {
         unreachable!()

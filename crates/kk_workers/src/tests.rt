@@ -70,6 +70,36 @@ fn three(alloc: Global, generation: u8, rows: [u8; 3]) -> Result<Event, AllocErr
     Ok(Event::Datagram(Bytes::new(frames.as_flattened().to_vec(alloc)?)))
 }
 
+/// A datagram with one row of a generation.
+fn one(alloc: Global, generation: u8, row: u8) -> Result<Event, AllocError>
+    ensures { IfOk result (λ e. FitsGate e) }
+{
+    Ok(Event::Datagram(Bytes::new(frame(0, generation, row).to_vec(alloc)?)))
+}
+
+/// A datagram with three rows of each of two generations.
+fn six(
+    alloc: Global,
+    first: u8,
+    rows: [u8; 3],
+    second: u8,
+    others: [u8; 3],
+) -> Result<Event, AllocError>
+    ensures { IfOk result (λ e. FitsGate e) }
+{
+    let [a, b, c] = rows;
+    let [d, e, f] = others;
+    let frames = [
+        frame(0, first, a),
+        frame(0, first, b),
+        frame(0, first, c),
+        frame(0, second, d),
+        frame(0, second, e),
+        frame(0, second, f),
+    ];
+    Ok(Event::Datagram(Bytes::new(frames.as_flattened().to_vec(alloc)?)))
+}
+
 /// A datagram with END.
 fn end(alloc: Global) -> Result<Event, AllocError>
     ensures { IfOk result (λ e. FitsGate e) }
@@ -79,7 +109,7 @@ fn end(alloc: Global) -> Result<Event, AllocError>
 
 /// A plan without a goal, with limits that nothing here reaches.
 fn patient() -> Plan
-    ensures { (1 ≤ result.limits.idle) × (1 ≤ result.limits.most) × (result.goal ≡ None) }
+    ensures { (1 ≤ result.limits.idle) × (1 ≤ result.limits.most) }
 {
     Plan {
         limits: Limits {
@@ -87,6 +117,16 @@ fn patient() -> Plan
             most: 10_000_000,
         },
         goal: None,
+    }
+}
+
+/// The same with the goal of a code with k = 1 that tolerates one injected dimension.
+fn tolerant() -> Plan
+    ensures { (1 ≤ result.limits.idle) × (1 ≤ result.limits.most) }
+{
+    Plan {
+        limits: patient().limits,
+        goal: Some(3),
     }
 }
 
@@ -246,11 +286,13 @@ fn worker_by_itself(rt: HostRuntime) -> Result<(), Fail> {
     Ok(())
 }
 
-/// A gate whose first answer waits until the first `next` of another has begun, and which is over where that doesn't come.
+/// A gate that gives some answers, and waits before the next until another such gate waits, too. It is over where that doesn't
+/// come.
 #[derive(Drop)]
 struct Meeting {
     begun: Arc<AtomicU64, Global>,
-    asked: bool,
+    answers: u32,
+    met: bool,
     alone: bool,
     events: MemoryGate,
 }
@@ -259,8 +301,10 @@ impl Gate for Meeting {
     ghost told = { λ g. record { left = None; events = g.events.events; faults = g.events.faults } };
 
     fn next(&mut self, buf: &mut [u8; GATE_BYTES]) -> Result<Got, Failed> {
-        if !self.asked {
-            self.asked = true;
+        if self.answers > 0 {
+            self.answers -= 1;
+        } else if !self.met {
+            self.met = true;
             self.begun.fetch_add(1, Ordering::SeqCst);
             self.alone = !meets(&self.begun);
         }
@@ -282,12 +326,18 @@ fn meets(begun: &Arc<AtomicU64, Global>) -> bool {
     false
 }
 
-fn meeting_of(begun: &Arc<AtomicU64, Global>, events: Vec<Event>) -> Result<Meeting, AllocError>
+/// A gate with these events that waits after so many answers.
+fn meeting_of(
+    begun: &Arc<AtomicU64, Global>,
+    answers: u32,
+    events: Vec<Event>,
+) -> Result<Meeting, AllocError>
     requires { All FitsGate events.items }
 {
     Ok(Meeting {
         begun: Arc::try_clone(begun)?,
-        asked: false,
+        answers,
+        met: false,
         alone: false,
         events: MemoryGate::new(events),
     })
@@ -302,15 +352,169 @@ fn gates_are_asked_at_once(rt: HostRuntime) -> Result<(), Fail> {
     let second = Vec::from_array(alloc, [three(alloc, 2, ZERO)?, end(alloc)?])?;
     let mut gates = Vec::from_array(
         alloc,
-        [meeting_of(&begun, first)?, meeting_of(&begun, second)?],
+        [
+            meeting_of(&begun, 0, first)?,
+            meeting_of(&begun, 0, second)?,
+        ],
     )?;
     let received = receive(&rt, alloc, &ticket, &mut gates, &patient())?;
     for gate in &gates {
-        assert!(rt; gate.asked && !gate.alone);
+        assert!(rt; gate.met && !gate.alone);
     }
     for answer in received.answers() {
         assert!(rt; answer.is_some());
     }
     assert_eq!(rt; received.totals().innovative, 9);
+    Ok(())
+}
+
+/// Whether the generations have the symbols 5, 0 and 0, and ranks of 3.
+fn is_all(received: &Received) -> bool
+    requires { (length received.now.answers ≡ 3) × (received.now.logs.shape.generations ≡ 3) }
+{
+    let answers = received.answers();
+    is_symbol(&answers[0], 5)
+        && is_symbol(&answers[1], 0)
+        && is_symbol(&answers[2], 0)
+        && received.log(0).len() == 3
+        && received.log(1).len() == 3
+        && received.log(2).len() == 3
+}
+
+/// A gate with these rows of generation 0, one a datagram, and then the others.
+fn gate_of(alloc: Global, rows: [u8; 4]) -> Result<Vec<MemoryGate>, AllocError>
+    ensures { IfOk result (λ gates. length gates.items ≡ 1) }
+{
+    let [a, b, c, d] = rows;
+    let events = Vec::from_array(
+        alloc,
+        [
+            one(alloc, 0, a)?,
+            one(alloc, 0, b)?,
+            one(alloc, 0, c)?,
+            one(alloc, 0, d)?,
+            six(alloc, 1, ZERO, 2, ZERO)?,
+        ],
+    )?;
+    Ok(Vec::from_array(alloc, [MemoryGate::new(events)])?)
+}
+
+/// Ten inserts, of which one came after its generation was frozen.
+const ONE_LATE: Totals = Totals {
+    inserts: 10,
+    innovative: 9,
+    redundant: 0,
+    late: 1,
+};
+
+#[test]
+fn row_after_the_goal_is_late(rt: HostRuntime) -> Result<(), Fail> {
+    let alloc = rt.alloc();
+    let ticket = ticket_of_one_byte(&rt)?;
+    let mut gates = gate_of(alloc, [13, 17, 34, 1])?;
+    let received = receive(&rt, alloc, &ticket, &mut gates, &tolerant())?;
+    assert!(rt; is_all(&received));
+    assert_eq!(rt; received.totals(), ONE_LATE);
+    Ok(())
+}
+
+#[test]
+fn injected_row_within_the_goal_is_corrected(rt: HostRuntime) -> Result<(), Fail> {
+    let alloc = rt.alloc();
+    let ticket = ticket_of_one_byte(&rt)?;
+    let mut gates = gate_of(alloc, [1, 13, 17, 34])?;
+    let received = receive(&rt, alloc, &ticket, &mut gates, &tolerant())?;
+    assert!(rt; is_all(&received));
+    assert_eq!(rt; received.totals(), ONE_LATE);
+    Ok(())
+}
+
+#[test]
+fn worker_keeps_what_it_froze(rt: HostRuntime) -> Result<(), Fail> {
+    let alloc = rt.alloc();
+    let ticket = ticket_of_one_byte(&rt)?;
+    let (table, mut founder) = GenTable::new(alloc, &ticket, 1)?;
+    let Ok(pass) = founder.pass(alloc, &table) else {
+        return Err(Alloc)?;
+    };
+    let events = Vec::from_array(alloc, [three(alloc, 0, FIVE)?, one(alloc, 1, 8)?])?;
+    let Ok(mut worker) = Worker::new(alloc, pass, MemoryGate::new(events), &ticket) else {
+        return Err(Alloc)?;
+    };
+    work(&mut worker, &table, &ticket, &tolerant());
+    let Some(answer) = worker.answer(0) else {
+        return Err(Alloc)?;
+    };
+    assert!(rt; is_symbol(&answer, 5));
+    assert!(rt; worker.answer(1).is_none());
+    let (pass, _gate) = worker.into_parts();
+    assert!(rt; pass.known_closed(0));
+    assert!(rt; !pass.known_closed(1));
+    Ok(())
+}
+
+#[test]
+fn goal_over_two_gates(rt: HostRuntime) -> Result<(), Fail> {
+    let alloc = rt.alloc();
+    let ticket = ticket_of_one_byte(&rt)?;
+    let first = Vec::from_array(
+        alloc,
+        [
+            one(alloc, 0, 13)?,
+            one(alloc, 0, 1)?,
+            three(alloc, 1, ZERO)?,
+        ],
+    )?;
+    let second = Vec::from_array(
+        alloc,
+        [
+            one(alloc, 0, 17)?,
+            one(alloc, 0, 34)?,
+            three(alloc, 2, ZERO)?,
+        ],
+    )?;
+    let mut gates = Vec::from_array(alloc, [MemoryGate::new(first), MemoryGate::new(second)])?;
+    let received = receive(&rt, alloc, &ticket, &mut gates, &tolerant())?;
+    assert!(rt; is_symbol(&received.answers()[0], 5));
+    assert!(rt; is_symbol(&received.answers()[1], 0));
+    assert!(rt; is_symbol(&received.answers()[2], 0));
+    let rank = received.log(0).len();
+    assert!(rt; rank == 3 || rank == 4);
+    Ok(())
+}
+
+#[test]
+fn generations_are_frozen_while_gates_are_asked(rt: HostRuntime) -> Result<(), Fail> {
+    let alloc = rt.alloc();
+    let ticket = ticket_of_one_byte(&rt)?;
+    let begun = Arc::new(alloc, AtomicU64::new(0))?;
+    let first = Vec::from_array(alloc, [six(alloc, 2, ZERO, 0, FIVE)?, one(alloc, 1, 8)?])?;
+    let second = Vec::from_array(
+        alloc,
+        [
+            one(alloc, 1, 8)?,
+            one(alloc, 1, 16)?,
+            one(alloc, 1, 32)?,
+            one(alloc, 0, 13)?,
+        ],
+    )?;
+    let mut gates = Vec::from_array(
+        alloc,
+        [
+            meeting_of(&begun, 1, first)?,
+            meeting_of(&begun, 3, second)?,
+        ],
+    )?;
+    let received = receive(&rt, alloc, &ticket, &mut gates, &tolerant())?;
+    assert!(rt; is_all(&received));
+    assert_eq!(rt;
+        received.totals(),
+        Totals {
+            inserts: 11,
+            innovative: 9,
+            redundant: 0,
+            late: 2,
+        }
+    );
     Ok(())
 }

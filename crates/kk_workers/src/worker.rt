@@ -4,6 +4,7 @@ ghost use Rattle.kk_code.specs.Ticket.{generations};
 ghost use Rattle.kk_workers.specs.Worker.{no_counts, new_worker};
 
 use crate::Totals;
+use crate::inserter::Inserter;
 use kk_code::{Message, Ticket};
 use kk_frame::{GateCount, Refused};
 use kk_outside::Gate;
@@ -21,11 +22,9 @@ pub(crate) type Answers = Vec<Option<Option<Message>>>;
 /// this worker froze it.
 #[derive(Drop)]
 pub struct Worker<G> {
-    pub(crate) pass: Pass,
+    pub(crate) inserter: Inserter,
     pub(crate) gate: G,
     pub(crate) counts: GateCount,
-    pub(crate) totals: Totals,
-    pub(crate) answers: Answers,
 }
 
 impl<G> Model for Worker<G> {
@@ -33,7 +32,7 @@ impl<G> Model for Worker<G> {
 
     ghost Value = { WorkerView G };
 
-    ghost view = { λ w. record { pass = w.pass; gate = w.gate; counts = w.counts; totals = w.totals; answers = w.answers.items } };
+    ghost view = { λ w. record { pass = w.inserter.pass; gate = w.gate; counts = w.counts; totals = w.inserter.totals; answers = w.inserter.answers.items } };
 }
 
 /// There is no memory for a worker. Pass and gate are handed back.
@@ -54,6 +53,18 @@ pub(crate) fn no_answers(alloc: Global, generations: u32) -> Result<Answers, All
         answers.push_reserved(None);
     }
     Ok(answers)
+}
+
+/// A copy of the answer of the generation, where it was frozen.
+pub(crate) fn answer_at(answers: &Answers, generation: u32) -> Option<Option<Message>>
+    requires { generation < length answers.now.items }
+    ensures { result ≡ slice_index_or answers.now.items generation None }
+{
+    match &answers[generation as usize] {
+        None => None,
+        Some(None) => Some(None),
+        Some(Some(message)) => Some(Some(Message::from_slice(message.symbols()))),
+    }
 }
 
 /// The counts of a gate that was not asked.
@@ -98,11 +109,13 @@ impl<G: Gate + Send> Worker<G> {
         ensures { (n : ℕ) → answers.items ≡ replicate n None → result ≡ new_worker n pass gate }
     {
         Worker {
-            pass,
+            inserter: Inserter {
+                pass,
+                totals: Totals::new(),
+                answers,
+            },
             gate,
             counts: not_asked(),
-            totals: Totals::new(),
-            answers,
         }
     }
 
@@ -119,11 +132,7 @@ impl<G: Gate + Send> Worker<G> {
         requires { generation < length self.now.answers }
         ensures { result ≡ slice_index_or self.now.answers generation None }
     {
-        match &self.answers[generation as usize] {
-            None => None,
-            Some(None) => Some(None),
-            Some(Some(message)) => Some(Some(Message::from_slice(message.symbols()))),
-        }
+        answer_at(&self.inserter.answers, generation)
     }
 
     /// Its pass and its gate.
@@ -131,6 +140,17 @@ impl<G: Gate + Send> Worker<G> {
         ensures pass { result.0 ≡ self.pass }
         ensures gate { result.1 ≡ self.gate }
     {
-        (self.pass, self.gate)
+        let inserter = self.inserter;
+        (inserter.pass, self.gate)
+    }
+
+    /// The same, with the answers of the generations that it froze.
+    pub(crate) fn into_all(self) -> (Pass, G, Answers)
+        ensures pass { result.0 ≡ self.pass }
+        ensures gate { result.1 ≡ self.gate }
+        ensures answers { result.2.items ≡ self.answers }
+    {
+        let inserter = self.inserter;
+        (inserter.pass, self.gate, inserter.answers)
     }
 }

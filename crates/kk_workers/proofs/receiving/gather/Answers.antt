@@ -1,14 +1,12 @@
-use Rattle.std.proofs.Common.{◌≡◌, ◌<◌, ◌+◌, ◌++◌, ◌∷◌, [], ℕ, List, All, IfSome, length, map, refl, ap, ◌∙◌, subst, arith, length-append}
+use Rattle.std.proofs.Common.{◌≡◌, ◌<◌, ◌+◌, ◌++◌, ◌∷◌, [], ℕ, List, length, map, refl, sym, ap, ◌∙◌, subst, arith, length-append}
 use Rattle.std.specs.List.{range_with_len}
 use Rattle.std.proofs.lemmas.List.{length-map}
-use Rattle.kk_code.specs.Codeword.{Parameters, IsMessage}
-use Rattle.kk_code.specs.Decoding.{answer}
 use Rattle.kk_table.specs.declared.view.Known.{Known}
 use Rattle.kk_table.specs.Founder.{FounderView}
-use Rattle.kk_table.specs.Rule.{sight, numbers_of}
+use Rattle.kk_table.specs.Rule.{numbers_of}
 use Rattle.kk_workers.specs.Worker.{WorkerView}
-use Rattle.kk_workers.specs.Runs.{hired, Closes}
-use Rattle.kk_workers.proofs.Stations.{all_hired, ready, done}
+use Rattle.kk_workers.specs.Runs.{hired, lists_in, closing_answer, Closes}
+use Rattle.kk_workers.proofs.Stations.{all_hired, ready, done, map_same, rooms_long, ticket_code}
 use Rattle.kk_workers.proofs.receiving.gather.Goals as goal
 
 pub run_all-requires-clause-ready : goal.run_all-requires-clause-ready
@@ -43,6 +41,7 @@ dismiss-totals-requires-clause-room g c κs within =
     let long = all_hired table c.args.ticket.now c.args.gates.now.items c.hire.new.workers.items is in (
       omega (arith, c.run_all.ensures.len, long, c.hire.ensures.gates_room, c.args.gates.now.ok.0, c.args.gates.now.ok.1),
       omega (arith, c.run_all.ensures.len, long, c.in_ok-table.ensures.counts.1, c.len.ensures, c.args.gates.now.ok.0),
+      omega (arith, c.run_all.ensures.len, long, c.hire.ensures.rooms_room, c.in_ok-table.ensures.rooms, c.in_ok-table.field-0.rooms.ok.0, c.in_ok-table.field-0.rooms.ok.1, c.len.ensures, c.args.gates.now.ok.0),
     )
 
 pub unreachable-requires-in_default-finish : goal.unreachable-requires-in_default-finish
@@ -96,7 +95,19 @@ returns-clause-received g c =
           ∙ ap (λ (f : FounderView). f.records ++ closing ∷ []) c.in-Ok.ensures.founder ∙ ap (λ (rs : List Known). rs ++ closing ∷ []) dismissed;
       number = same.number ∙ ap (λ (k : Known). k.number) c.in-Ok.ensures.pass.1 ∙ ap (λ (f : FounderView). f.given + 1) c.dismiss-totals.ensures.founder ∙ ap (λ (f : FounderView). f.given + 1) c.hire.ensures.founder;
       note = same.note ∙ ap (λ (k : Known). k.note) c.in-Ok.ensures.pass.1 ∙ ap numbers_of dismissed;
-      closes = subst (λ (n : ℕ). Closes n closing) count c.close_all.ensures.closes;
-      answers = c.decode_all.ensures.answers ∙ (λ i. map (λ (k : ℕ). answer (c.code.ensures.code i) (sight closing k).rows) (range_with_len 0 (count i)));
-      messages = subst (λ (p : Parameters). All (λ a. IfSome a (IsMessage p)) c.decode_all.new.answers.items) c.code.ensures.code c.decode_all.ensures.messages;
+      closes = subst (λ (n : ℕ). Closes (map (λ (w : WorkerView g.row.G.Denot). w.answers) c.run_all.new.workers.items) n closing) count
+          (subst (λ rooms. Closes rooms c.generations-generations.result closing) (ap lists_in c.deref.ensures.value ∙ c.dismiss-totals.ensures.kept) c.close_all.ensures.closes);
+      answers = c.decode_all.ensures
+          ∙ map_same (λ p rooms k. closing_answer p rooms closing k) c.code.ensures.code (ap lists_in c.deref-2.ensures.value ∙ c.dismiss-totals.ensures.kept) (ap (range_with_len 0) count);
+      code = ticket_code t c.code.ensures.ticket;
     }
+
+pub close_all-requires-clause-kept : goal.close_all-requires-clause-kept
+close_all-requires-clause-kept g c =
+    rooms_long c.generations-generations.result c.run_all.new.workers.items c.deref.result.now (ap lists_in c.deref.ensures.value ∙ c.dismiss-totals.ensures.kept)
+    (λ k d near. (c.run_all.ensures.each k d (omega (arith, near, c.run_all.ensures.len))).all_answers ∙ sym c.generations-generations.ensures.count)
+
+pub decode_all-requires-clause-kept : goal.decode_all-requires-clause-kept
+decode_all-requires-clause-kept g c =
+    rooms_long c.generations-generations.result c.run_all.new.workers.items c.deref-2.result.now (ap lists_in c.deref-2.ensures.value ∙ c.dismiss-totals.ensures.kept)
+    (λ k d near. (c.run_all.ensures.each k d (omega (arith, near, c.run_all.ensures.len))).all_answers ∙ sym c.generations-generations.ensures.count)

@@ -6,20 +6,20 @@ use Rattle.kk_workers.proofs.receiving.receive.Goals as goal
 
 pub returns-clause-headline : goal.returns-clause-headline
 returns-clause-headline g c =
-    headline g.G.Gate.told c.args.ticket.now c.args.plan.now c.args.gates.now.items c.gather.new.gates.items c.in_ok-received.received c.requires.no_goal c.in_ok-received.ensures.received
+    headline g.G.Gate.told c.args.ticket.now c.args.plan.now c.args.gates.now.items c.gather.new.gates.items c.in_ok-received.received c.in_ok-received.ensures.received
     (subst (λ (r : ReceivedView). IsLogs r.logs.shape r.logs.records r.logs.logs) c.received.view_is c.history.ensures)
 
 pub returns-clause-add_up : goal.returns-clause-add_up
 returns-clause-add_up g c =
-    add_up g.G.Gate.told c.args.ticket.now c.args.plan.now c.args.gates.now.items c.gather.new.gates.items c.in_ok-received.received c.requires.no_goal c.in_ok-received.ensures.received
+    add_up g.G.Gate.told c.args.ticket.now c.args.plan.now c.args.gates.now.items c.gather.new.gates.items c.in_ok-received.received c.in_ok-received.ensures.received
     (subst (λ (r : ReceivedView). IsLogs r.logs.shape r.logs.records r.logs.logs) c.received.view_is c.history.ensures)
 
 pub returns-clause-one_count_each : goal.returns-clause-one_count_each
 returns-clause-one_count_each g c =
-    one_count_each g.G.Gate.told c.args.ticket.now c.args.plan.now c.args.gates.now.items c.gather.new.gates.items c.in_ok-received.received c.requires.no_goal c.in_ok-received.ensures.received
+    one_count_each g.G.Gate.told c.args.ticket.now c.args.plan.now c.args.gates.now.items c.gather.new.gates.items c.in_ok-received.received c.in_ok-received.ensures.received
     (subst (λ (r : ReceivedView). IsLogs r.logs.shape r.logs.records r.logs.logs) c.received.view_is c.history.ensures)
 
 pub returns-clause-one_answer_each : goal.returns-clause-one_answer_each
 returns-clause-one_answer_each g c =
-    one_answer_each g.G.Gate.told c.args.ticket.now c.args.plan.now c.args.gates.now.items c.gather.new.gates.items c.in_ok-received.received c.requires.no_goal c.in_ok-received.ensures.received
+    one_answer_each g.G.Gate.told c.args.ticket.now c.args.plan.now c.args.gates.now.items c.gather.new.gates.items c.in_ok-received.received c.in_ok-received.ensures.received
     (subst (λ (r : ReceivedView). IsLogs r.logs.shape r.logs.records r.logs.logs) c.received.view_is c.history.ensures)

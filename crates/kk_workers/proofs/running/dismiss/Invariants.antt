@@ -1,7 +1,7 @@
 use Rattle.std.proofs.Common.{◌≡◌, ◌*◌, ◌^◌, ◌≤◌, take, drop, map}
 use Rattle.std.specs.Prelude.{vec_len, vec_capacity}
 use Rattle.kk_workers.specs.Totals.{AreWithin, sum_of_totals}
-use Rattle.kk_workers.specs.Runs.{founder_of}
+use Rattle.kk_workers.specs.Runs.{founder_of, lists_in}
 use Rattle.kk_workers.proofs.running.dismiss.Given as goal
 
 abbrev pub invariant-loop-i : goal.invariant-loop-i
@@ -13,6 +13,9 @@ invariant-loop-i g l = record {
   counts : l.counts.items ≡ map (λ w. w.counts) (take l.i l.fn.workers.items);
   counts_len : vec_len l.counts ≡ l.i;
   counts_room : vec_capacity l.counts ≡ vec_capacity l.fn.counts;
+  kept : lists_in l.kept.items ≡ map (λ w. w.answers) (take l.i l.fn.workers.items);
+  kept_len : vec_len l.kept ≡ l.i;
+  kept_room : vec_capacity l.kept ≡ vec_capacity l.fn.kept;
   totals : l.totals ≡ sum_of_totals (map (λ w. w.totals) (take l.i l.fn.workers.items));
   within : AreWithin l.totals;
   few : l.totals.inserts ≤ l.i * 2 ^ 39;

@@ -12,6 +12,7 @@ loop-i-init g c = record {
   gates = refl;
   gates_room = refl;
   rooms = refl;
+  rooms_room = refl;
   workers = c.requires.workers ∙ hired_none c.args.table.now c.args.generations 0;
   len = omega (arith, ap length c.requires.workers, c.args.workers.now.ok.0);
   workers_room = refl;
@@ -41,6 +42,7 @@ loop-i-preserved g c =
     record {
       gates = c.remove-gate.ensures.items ∙ ap (λ (xs : List g.row.G.Denot). drop 1 xs) inv.gates ∙ remove-drop all loop.i;
       gates_room = c.remove-gate.ensures.capacity ∙ inv.gates_room;
+      rooms_room = c.remove-answers.ensures.capacity ∙ inv.rooms_room;
       rooms = c.remove-answers.ensures.items ∙ ap (λ xs. drop 1 xs) inv.rooms ∙ remove-drop c.args.rooms.now.items loop.i;
       workers = c.push_reserved.ensures.items ∙ (λ j. inv.workers j ++ new j ∷ []) ∙ sym (hired-first table n all loop.i one inside first);
       len = omega (arith, c.push_reserved.ensures.len, inv.len);

@@ -1,15 +1,12 @@
-use Rattle.std.proofs.Common.{◌≡◌, ◌∙◌, List, [], true, ap, sym, refl, subst, rules}
+use Rattle.std.proofs.Common.{◌≡◌, ◌∙◌, [], true, ap, sym, refl, subst, rules}
 use Rattle.kk_outside.specs.Change.{change}
 use Rattle.kk_outside.specs.Gate.{GateTold}
-use Rattle.kk_code.specs.Ticket.{generations}
 use Rattle.kk_frame.specs.Intake.{is_running}
-use Rattle.kk_machine.specs.declared.call.Entry.{Entry}
-use Rattle.kk_machine.specs.Inserts.{tally, of_reply, froze}
 use Rattle.kk_workers.specs.Worker.{WorkerView}
 use Rattle.kk_workers.specs.Works.{SamePass, Worked, FaultCause}
 use Rattle.kk_workers.specs.Working.{Working}
-use Rattle.kk_workers.proofs.Counting.{AreTotals-none}
-use Rattle.kk_workers.proofs.Works.{Working-start, Working-more, Worked-end, FaultCause-start, FaultCause-more, few_inserts, no_answers_kept}
+use Rattle.kk_workers.proofs.Kept.{IsInserter-start}
+use Rattle.kk_workers.proofs.Works.{Working-start, Working-more, Worked-end, FaultCause-start, FaultCause-more, few_inserts}
 use Rattle.kk_workers.proofs.working.work.Goals as goal
 
 pub loop-buf-init : goal.loop-buf-init
@@ -19,13 +16,12 @@ loop-buf-init g c =
     let told : g.row.G.Denot → GateTold = g.G.Gate.told in
     let inside = c.worker.inside in
     let is = c.worker.view_is in
-    let none : inside.pass.known.calls ≡ [] = ap (λ (w : W). w.pass.known.calls) is ∙ c.requires.no_calls in
+    let none : inside.inserter.pass.known.calls ≡ [] = ap (λ (w : W). w.pass.known.calls) is ∙ c.requires.no_calls in
     record {
-      same = subst (λ (w : W). SamePass w.pass inside.pass) is (record { table = refl; number = refl; note = refl });
-      working = subst (λ (w : W). Working t c.args.plan.now.limits (change (told w.gate) (told inside.gate)) c.new-intake.result inside.pass.known.calls) is
-          (Working-start t c.args.plan.now.limits (told inside.gate) c.new-intake.result inside.pass.known.calls (c.new-intake.ensures.after t) c.new-intake.ensures.limits c.new-intake.ensures.calls none);
-      totals = AreTotals-none inside.totals inside.pass.known.calls (ap (λ (w : W). w.totals) is ∙ c.requires.no_inserts) none;
-      answers = ap (λ (w : W). w.answers) is;
+      same = subst (λ (w : W). SamePass w.pass inside.inserter.pass) is (record { table = refl; number = refl; note = refl });
+      working = subst (λ (w : W). Working t c.args.plan.now (change (told w.gate) (told inside.gate)) c.new-intake.result inside.inserter.pass.known.calls) is
+          (Working-start t c.args.plan.now (told inside.gate) c.new-intake.result inside.inserter.pass.known.calls (c.new-intake.ensures.after t) c.new-intake.ensures.limits c.new-intake.ensures.calls none);
+      inserter = IsInserter-start t inside.inserter (ap (λ (w : W). w.totals) is ∙ c.requires.no_inserts) none (ap (λ (w : W). w.answers) is ∙ c.requires.no_answers);
       cause = subst (λ (w : W). FaultCause (change (told w.gate) (told inside.gate)) c.new-intake.result.counts) is (FaultCause-start (told inside.gate) c.new-intake.result c.new-intake.ensures.running);
     }
 
@@ -34,8 +30,8 @@ ask-requires-clause-table g c = c.loop-buf.invariant.same.table ∙ c.requires.t
 
 pub ask-requires-clause-few : goal.ask-requires-clause-few
 ask-requires-clause-few g c =
-    few_inserts c.args.ticket.now c.args.plan.now.limits (change (g.G.Gate.told c.args.worker.now.gate) (g.G.Gate.told c.loop-buf.worker-inside.gate)) c.loop-buf.intake c.loop-buf.worker-inside.pass.known.calls c.loop-buf.worker-inside.totals
-    (search rules) c.runs.ensures.intake c.loop-buf.invariant.working c.loop-buf.invariant.totals
+    few_inserts c.args.ticket.now c.args.plan.now (change (g.G.Gate.told c.args.worker.now.gate) (g.G.Gate.told c.loop-buf.worker-inside.gate)) c.loop-buf.intake c.loop-buf.worker-inside.inserter.pass.known.calls c.loop-buf.worker-inside.inserter.totals
+    (search rules) c.runs.ensures.intake c.loop-buf.invariant.working c.loop-buf.invariant.inserter.totals
 
 pub loop-buf-preserved : goal.loop-buf-preserved
 loop-buf-preserved g c =
@@ -49,9 +45,8 @@ loop-buf-preserved g c =
         number = c.ask.ensures.pass.number ∙ inv.same.number;
         note = c.ask.ensures.pass.note ∙ inv.same.note;
       };
-      working = Working-more c.args.ticket.now c.args.plan.now.limits (told c.args.worker.now.gate) (told inside.gate) (told c.ask.new.gate) c.loop-buf.intake c.ask.new.intake inside.pass.known.calls c.ask.new.pass.known.calls on inv.working c.ask.ensures.asked;
-      totals = c.ask.ensures.totals;
-      answers = inv.answers;
+      working = Working-more c.args.ticket.now c.args.plan.now (told c.args.worker.now.gate) (told inside.gate) (told c.ask.new.gate) c.loop-buf.intake c.ask.new.intake inside.inserter.pass.known.calls c.ask.new.inserter.pass.known.calls on inv.working c.ask.ensures.asked;
+      inserter = c.ask.ensures.inserter;
       cause = FaultCause-more (told c.args.worker.now.gate) (told inside.gate) (told c.ask.new.gate) c.loop-buf.intake c.ask.new.intake on inv.cause c.ask.ensures.cause;
     }
 
@@ -61,17 +56,20 @@ returns-clause-pass g c = c.loop-buf.invariant.same
 pub returns-clause-worked : goal.returns-clause-worked
 returns-clause-worked g c =
     let gate = change (g.G.Gate.told c.args.worker.now.gate) (g.G.Gate.told c.loop-buf.worker-inside.gate) in
-    let calls = c.loop-buf.worker-inside.pass.known.calls in
+    let calls = c.loop-buf.worker-inside.inserter.pass.known.calls in
     subst (λ x. Worked c.args.ticket.now c.args.plan.now gate x calls) (sym c.counts-worker-inside.ensures.counts)
-    (Worked-end c.args.ticket.now c.args.plan.now gate c.loop-buf.intake calls (sym c.runs.ensures.running ∙ c.loop-buf-test.false) c.requires.no_goal c.loop-buf.invariant.working)
+    (Worked-end c.args.ticket.now c.args.plan.now gate c.loop-buf.intake calls (sym c.runs.ensures.running ∙ c.loop-buf-test.false) c.loop-buf.invariant.working)
 
 pub returns-clause-few : goal.returns-clause-few
 returns-clause-few g c =
-    few_inserts c.args.ticket.now c.args.plan.now.limits (change (g.G.Gate.told c.args.worker.now.gate) (g.G.Gate.told c.loop-buf.worker-inside.gate)) c.loop-buf.intake c.loop-buf.worker-inside.pass.known.calls c.loop-buf.worker-inside.totals
-    (search rules) c.runs.ensures.intake c.loop-buf.invariant.working c.loop-buf.invariant.totals
+    few_inserts c.args.ticket.now c.args.plan.now (change (g.G.Gate.told c.args.worker.now.gate) (g.G.Gate.told c.loop-buf.worker-inside.gate)) c.loop-buf.intake c.loop-buf.worker-inside.inserter.pass.known.calls c.loop-buf.worker-inside.inserter.totals
+    (search rules) c.runs.ensures.intake c.loop-buf.invariant.working c.loop-buf.invariant.inserter.totals
+
+pub returns-clause-totals : goal.returns-clause-totals
+returns-clause-totals g c = c.loop-buf.invariant.inserter.totals
 
 pub returns-clause-answers : goal.returns-clause-answers
-returns-clause-answers g c =
-    let brings = c.loop-buf.invariant.working.brings in
-    no_answers_kept c.args.ticket.now.code c.loop-buf.worker-inside.pass.known (generations c.args.ticket.now) c.loop-buf.worker-inside.answers.items
-    (ap (λ (es : List Entry). tally (of_reply froze) es) brings.goes_on ∙ brings.unfrozen) (c.loop-buf.invariant.answers ∙ c.requires.no_answers)
+returns-clause-answers g c = c.loop-buf.invariant.inserter.answers
+
+pub returns-clause-all_answers : goal.returns-clause-all_answers
+returns-clause-all_answers g c = c.loop-buf.invariant.inserter.all
