@@ -46,7 +46,7 @@ use Rattle.kk_workers.proofs.Frozen.{IsRun, AreKept, sum_list, frozen, rows_of_a
 -- ---- lists side by side
 
 -- what a list made by a function has at a place
-map_at : {X Y : Type 0} (f : X → Y) (xs : List X) (i : ℕ) (d : Y) (x : X) → i < length xs → get_or (map f xs) i d ≡ f (get_or xs i x)
+pub map_at : {X Y : Type 0} (f : X → Y) (xs : List X) (i : ℕ) (d : Y) (x : X) → i < length xs → get_or (map f xs) i d ≡ f (get_or xs i x)
 map_at f [] i d x near = absurd (omega (arith, near))
 map_at f (y ∷ ys) zero d x near = refl
 map_at f (y ∷ ys) (suc i) d x near = map_at f ys i d x (omega (arith, near))

@@ -9,3 +9,4 @@ pub mod Closings
 pub mod Stations
 pub mod Frozen
 pub mod Headlines
+pub mod Sent

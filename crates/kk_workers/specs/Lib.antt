@@ -5,3 +5,4 @@ pub mod Worker
 pub mod Runs
 pub mod Headline
 pub mod Receiving
+pub mod Laws

@@ -4,6 +4,7 @@
 mod closing;
 mod decoding;
 mod inserter;
+pub mod laws;
 mod plan;
 mod received;
 mod receiving;
