@@ -68,14 +68,14 @@ pub fn run<R: Threads + Sync, S: Source, K: Sink, P: Sink, G: Gate + Send, O: Ou
         → Receives (texts words.now) (changes G.told gates.old.items gates.new.items)
         (change (K.told file.old) (K.told file.new)) (change (P.told report.old) (P.told report.new)) logs.new.items result }
 
-    // What isn't read: anything by a run that ended at once, of `plan` one whose words name no code or that had no memory,
-    // and anything by `relay` and `recv`.
+    // A run that ended at once read nothing; of `plan` that is one whose words name no code, or that had no memory. `relay`
+    // and `recv` read nothing at all.
     ensures unread { (named_in (texts words.now) ≡ Some Command.Plan → ⊥) → EndedAtOnce result → source.new ≡ source.old }
     ensures unread_by_plan { named_in (texts words.now) ≡ Some Command.Plan
         → (result ≡ 1) ⊎ ((result ≡ 8) ⊎ ((t : TicketFields) → NamesCode (texts words.now) t → ⊥)) → source.new ≡ source.old }
     ensures source { (named_in (texts words.now) ≡ Some Command.Relay) ⊎ (named_in (texts words.now) ≡ Some Command.Recv) → source.new ≡ source.old }
 
-    // What isn't written: a file by a run that didn't come to its end, one that has no bytes, and any by `send` and `relay`.
+    // The file's sink is called only by a run that came to its end, only for a file that has bytes, and not by `send` or `relay`.
     ensures unwritten { (MayTouchFile result → ⊥) → file.new ≡ file.old }
     ensures no_bytes_unpacked { (t : TicketFields) (most : ℕ) → UnpacksUnder t most (texts words.now) result
         → unpacked t most (bytes_read (change (S.told source.old) (S.told source.new))) ≡ Some [] → file.new ≡ file.old }

@@ -2,6 +2,7 @@ ghost use Rattle.std.specs.Prelude.{◌<◌};
 
 mod pack;
 mod plan;
+mod recv;
 mod relay;
 mod send;
 
@@ -11,6 +12,7 @@ use std::alloc::{AllocError, Global};
 use std::io;
 use std::io::Read;
 use std::test::Fail;
+use std::thread::Threads;
 
 /// Unpacks a capture that is held in memory, and drops the report: true where the file's sink has the file.
 fn unpack_bytes(
@@ -123,14 +125,14 @@ fn texts(alloc: Global, words: &[&str]) -> Result<Vec<String>, AllocError> {
 }
 
 /// Runs the program with no gate, and with an outlet that takes nothing.
-fn run_on<S: Source>(
-    rt: &HostRuntime,
+fn run_on<R: Threads + Sync, S: Source>(
+    rt: &R,
+    alloc: Global,
     words: &[String],
     source: &mut S,
     file: &mut MemorySink,
     report: &mut MemorySink,
 ) -> Result<u8, Fail> {
-    let alloc = rt.alloc();
     let mut gates: Vec<MemoryGate> = Vec::new(alloc);
     let mut outlet = MemoryOutlet::new(alloc, 0, Vec::new(alloc))?;
     let mut logs = Vec::new(alloc);
@@ -147,8 +149,7 @@ fn run_on<S: Source>(
     ))
 }
 
-fn run_in(rt: &HostRuntime, setting: &Setting) -> Result<Outcome, Fail> {
-    let alloc = rt.alloc();
+fn run_in<R: Threads + Sync>(rt: &R, alloc: Global, setting: &Setting) -> Result<Outcome, Fail> {
     let words = texts(alloc, setting.words)?;
     let bytes = setting.bytes.to_vec(alloc)?;
     let mut source = MemorySource::new(
@@ -163,7 +164,7 @@ fn run_in(rt: &HostRuntime, setting: &Setting) -> Result<Outcome, Fail> {
         setting.file_fails.to_vec(alloc)?,
     )?;
     let mut report = MemorySink::new(alloc, 1000, 100, setting.report_fails.to_vec(alloc)?)?;
-    let status = run_on(rt, &words, &mut source, &mut file, &mut report)?;
+    let status = run_on(rt, alloc, &words, &mut source, &mut file, &mut report)?;
     Ok(Outcome {
         status,
         file,
@@ -261,7 +262,7 @@ fn captures(rt: HostRuntime) -> Result<(), Fail> {
             status 3\n",
         ),
     ] {
-        let outcome = run_in(&rt, &unfailing(words, bytes))?;
+        let outcome = run_in(&rt, rt.alloc(), &unfailing(words, bytes))?;
         assert_eq!(rt; outcome.status, status);
         assert_eq!(rt; outcome.file.bytes(), file);
         assert_eq!(rt; outcome.report.bytes(), report);
@@ -290,7 +291,11 @@ fn bad_pieces_and_redundant_rows(rt: HostRuntime) -> Result<(), Fail> {
         frame(1, 0, 0),
         frame(0, 2, 8),
     ];
-    let outcome = run_in(&rt, &unfailing(&["unpack", ONE_BYTE], bytes.as_flattened()))?;
+    let outcome = run_in(
+        &rt,
+        rt.alloc(),
+        &unfailing(&["unpack", ONE_BYTE], bytes.as_flattened()),
+    )?;
     assert_eq!(rt; outcome.status, 3);
     assert_eq!(rt;
         outcome.report.bytes(),
@@ -355,7 +360,7 @@ fn refusals(rt: HostRuntime) -> Result<(), Fail> {
             "ticket shape 0\nstatus 2\n",
         ),
     ] {
-        let outcome = run_in(&rt, &unfailing(words, b""))?;
+        let outcome = run_in(&rt, rt.alloc(), &unfailing(words, b""))?;
         assert_eq!(rt; outcome.status, status, "{report}");
         assert_eq!(rt; outcome.report.bytes(), report.as_bytes());
     }
@@ -377,6 +382,7 @@ fn every_call_fails_in_turn(rt: HostRuntime) -> Result<(), Fail> {
         let fails = [read];
         let outcome = run_in(
             &rt,
+            alloc,
             &Setting {
                 read: 1,
                 source_fails: &fails,
@@ -395,6 +401,7 @@ fn every_call_fails_in_turn(rt: HostRuntime) -> Result<(), Fail> {
     // Nor is one made after the last piece that may be taken.
     let outcome = run_in(
         &rt,
+        alloc,
         &Setting {
             words: &["unpack", ONE_BYTE, "--most", "100000000"],
             source_fails: &[10],
@@ -404,6 +411,7 @@ fn every_call_fails_in_turn(rt: HostRuntime) -> Result<(), Fail> {
     assert_eq!(rt; outcome.status, 0);
     let outcome = run_in(
         &rt,
+        alloc,
         &Setting {
             words: &["unpack", ONE_BYTE, "--most", "9"],
             source_fails: &[9],
@@ -420,6 +428,7 @@ fn every_call_fails_in_turn(rt: HostRuntime) -> Result<(), Fail> {
         let fails = [write];
         let outcome = run_in(
             &rt,
+            alloc,
             &Setting {
                 file_fails: &fails,
                 ..three
@@ -448,6 +457,7 @@ fn every_call_fails_in_turn(rt: HostRuntime) -> Result<(), Fail> {
         let fails = [write];
         let outcome = run_in(
             &rt,
+            alloc,
             &Setting {
                 bytes,
                 source_fails,
@@ -474,7 +484,7 @@ fn the_largest_ticket_without_input(rt: HostRuntime) -> Result<(), Fail> {
     let mut file = MemorySink::new(alloc, 1, 1, Vec::new(alloc))?;
     let mut report = MemorySink::new(alloc, 500_000, 4096, [114u64].to_vec(alloc)?)?;
     assert_eq!(rt;
-        run_on(&rt, &words, &mut source, &mut file, &mut report)?,
+        run_on(&rt, alloc, &words, &mut source, &mut file, &mut report)?,
         3
     );
     let text = report.bytes();
@@ -526,7 +536,7 @@ fn bytes_after_an_end_stay_with_the_source(rt: HostRuntime) -> Result<(), Fail> 
     let mut file = MemorySink::new(alloc, 1, 1, Vec::new(alloc))?;
     let mut report = MemorySink::new(alloc, 1000, 100, Vec::new(alloc))?;
     assert_eq!(rt;
-        run_on(&rt, &words, &mut source, &mut file, &mut report)?,
+        run_on(&rt, alloc, &words, &mut source, &mut file, &mut report)?,
         3
     );
     assert_eq!(rt; report.bytes(), CUT);
