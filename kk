@@ -27,7 +27,7 @@ Kschischang. Each command writes a report to standard error, and ends with the s
                                                      sends a file to an address, as 127.0.0.1:9000
   kk relay TICKET TARGET LISTEN --seed HEX [--rate N] [--idle N] [--most N]
                                                      sends combinations of the frames that come in
-  kk recv TICKET LISTEN.. [--idle N] [--most N] > FILE
+  kk recv TICKET LISTEN.. [--idle N] [--most N] [--tolerate N] > FILE
                                                      the file of the frames that come in at up to 16 addresses
 
   kk --build   builds the program where there is none of these sources, and runs nothing

@@ -29,7 +29,7 @@ use Rattle.kk_top.specs.Laws.{PackedFileUnpacks}
 use Rattle.kk_top.specs.commands.Unpack.{piece_limits, pieces_read, vectors_of, counts_of, unpacked, read_length}
 
 -- a ticket's code is one that the laws of codewords speak of
-ticket_code : (t : TicketFields) → IsTicket t → IsCode t.code
+pub ticket_code : (t : TicketFields) → IsTicket t → IsCode t.code
 ticket_code t ticket = record {
   field = record {
     modulus = record { at_least_one = omega (arith, ticket.code.m_low); low_below = ticket.code.low };

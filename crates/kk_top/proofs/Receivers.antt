@@ -1,18 +1,27 @@
 -- What a receiver with several gates makes of the events of its gates.
-use Rattle.std.proofs.Common.{◌≡◌, ◌⊎◌, inl, inr, ℕ, zero, suc, ◌+◌, ◌<◌, Bool, true, false, if◌then◌else◌, List, [], ◌∷◌, ◌++◌, length, take, get_or, Option, Some, None, is_some, refl, ap, sym, subst, ◌∙◌, true≢false, arith}
-use Rattle.std.specs.Prelude.{◌↔◌, map, sum_by, All, IsSomeAnd}
+use Rattle.std.proofs.Common.{◌≡◌, ◌⊎◌, inl, inr, ℕ, zero, suc, ◌+◌, ◌-◌, ◌*◌, ◌/◌, ◌<◌, ◌≤◌, Bool, true, false, if◌then◌else◌, List, [], ◌∷◌, ◌++◌, length, take, get_or, Option, Some, None, is_some, refl, ap, sym, subst, ◌∙◌, true≢false, arith}
+use Rattle.std.specs.Prelude.{◌↔◌, map, sum_by, All, option_map}
+use Rattle.std.proofs.Math.Nat.{div-eq_of_lt}
+use Rattle.std.proofs.lemmas.Option.{same_Some}
 use Rattle.std.specs.List.{range_with_len}
 use Rattle.std.proofs.lemmas.List.{same_lists, length-map, take_more}
 use Rattle.std.proofs.lemmas.List.FromFn.{length-map-range_with_len, get_or-map-range_with_len}
 use Rattle.std.proofs.lemmas.List.Sums.{sum-map}
 use Rattle.kk_rows.specs.Span.{dimension}
+use Rattle.kk_rows.specs.Distance.{distance}
 use Rattle.kk_rows.proofs.Dimensions.{dimension-same_span, in_span_innovative}
 use Rattle.kk_outside.specs.Causes.{CanCount}
 use Rattle.kk_outside.specs.Change.{Change}
 use Rattle.kk_outside.specs.Gate.{GateTold, events_told}
 use Rattle.kk_outside.specs.Sink.{SinkTold, SinkFailed, WasGiven}
-use Rattle.kk_code.specs.Decoding.{answer}
-use Rattle.kk_code.specs.Ticket.{TicketFields, generations}
+use Rattle.kk_code.specs.Codeword.{codeword}
+use Rattle.kk_code.specs.Decoding.{Decodes, answer}
+use Rattle.kk_code.specs.Ticket.{TicketFields, generations, message_bits}
+use Rattle.kk_code.specs.TicketText.{IsTicket}
+use Rattle.kk_code.proofs.Enumeration.{answer-of_message}
+use Rattle.kk_assemble.specs.FileBits.{cut, joined, message_bit, number_from}
+use Rattle.kk_assemble.specs.Messages.{all_messages}
+use Rattle.kk_assemble.proofs.Cuts.{cut_is_message, file_from_answers, message_bits_some}
 use Rattle.kk_decode.proofs.Answering.{answer-same_span}
 use Rattle.kk_frame.specs.declared.frame.TheConstants.{FRAME_BYTES}
 use Rattle.kk_frame.specs.declared.limits.Limits.{Limits}
@@ -22,18 +31,23 @@ use Rattle.kk_frame.specs.declared.gate_count.GateCount.{GateCount}
 use Rattle.kk_frame.specs.Events.{counts}
 use Rattle.kk_frame.specs.Generation.{rows_of}
 use Rattle.kk_machine.specs.declared.log.Log.{Log}
+use Rattle.kk_machine.specs.Inserts.{FrozenBy}
 use Rattle.kk_machine.specs.Spaces.{unseen}
 use Rattle.kk_table.specs.declared.view.Known.{Known}
 use Rattle.kk_table.specs.Logs.{LogsView, log_at}
 use Rattle.kk_outside.specs.Gate.{GateFailed}
+use Rattle.kk_workers.specs.declared.plan.Plan.{Plan}
 use Rattle.kk_workers.specs.Worker.{no_counts}
+use Rattle.kk_workers.specs.Laws.{IsTolerable}
 use Rattle.kk_workers.specs.Headline.{all_taken, ReceivedView, Headline, AddUp}
 use Rattle.kk_workers.proofs.Counting.{same_totals}
 use Rattle.kk_workers.proofs.Headlines.{log-spans, answer-taken}
+use Rattle.kk_workers.proofs.Sent.{frozen_rows_decode}
+use Rattle.kk_top.proofs.Packed.{ticket_code}
 use Rattle.kk_top.specs.Answers.{frozen, answers, file_of, file_text, outcomes_of, totals_of}
 use Rattle.kk_top.specs.Command.{MayTouchFile}
 use Rattle.kk_top.specs.Delivery.{IsDelivered}
-use Rattle.kk_top.specs.Receiver.{plan_of, received, gate_counts, is_fault, some_fault, SomeFailed, after_gates, report_of, IsReceiver}
+use Rattle.kk_top.specs.Receiver.{received, gate_counts, is_fault, some_fault, SomeFailed, after_gates, report_of, view_report, IsRunOf, IsFileOf, IsReceiver}
 use Rattle.kk_top.specs.Report.{logged, logged_outcomes, receiver_report}
 use Rattle.kk_top.proofs.Reporting.{IsStatusOf}
 
@@ -104,7 +118,10 @@ received_is t limits gates = refl
 
 -- ---- the run
 
-module _ (t : TicketFields) (limits : Limits) (gates : List (Change GateTold)) (r : ReceivedView) (line : Headline t (plan_of limits) gates r) (sums : AddUp t (plan_of limits) gates r) where
+module _ (t : TicketFields) (plan : Plan) (gates : List (Change GateTold)) (r : ReceivedView) (line : Headline t plan gates r) (sums : AddUp t plan gates r) where
+  abbrev limits : Limits
+  limits = plan.limits
+
   abbrev n : ℕ
   n = generations t
 
@@ -126,7 +143,7 @@ module _ (t : TicketFields) (limits : Limits) (gates : List (Change GateTold)) (
   pub fault_is_told : some_fault r.gates ≡ some_fault (gate_counts t limits gates)
   fault_is_told = ap some_fault counts_are
 
-  gate_faults : All (λ gate. CanCount gate.old.faults) gates → (some_fault (gate_counts t limits gates) ≡ true) ↔ SomeFailed gates
+  pub gate_faults : All (λ gate. CanCount gate.old.faults) gates → (some_fault (gate_counts t limits gates) ≡ true) ↔ SomeFailed gates
   gate_faults can = some_failed count_of gates (λ i d near.
       let p = line.passes i d no_counts no_pass near in
       let same : (get_or r.gates i no_counts).ended ≡ (count_of (get_or gates i d)).ended = ap (λ (c : GateCount). c.ended) p.worked.takes.counts in
@@ -136,160 +153,244 @@ module _ (t : TicketFields) (limits : Limits) (gates : List (Change GateTold)) (
       no_pass : Known
       no_pass = record { number = 0; note = []; calls = []; seen = []; accesses = 0 }
 
-  -- the answers
-  answer_is : (g : ℕ) (d : Option (List ℕ)) → g < n → get_or r.answers g d ≡ answer t.code (frozen vectors g)
-  answer_is g d near = answer-taken t (plan_of limits) gates r refl line g d near
-      ∙ sym (answer-same_span t.code (frozen vectors g) (rows_of g vectors) (in_span_innovative (rows_of g vectors)))
-
-  abbrev one_each : length r.answers ≡ n
+  -- the answers are those of the logs
+  pub one_each : length r.answers ≡ n
   one_each = ap (λ (x : List (Option (List ℕ))). length x) line.answers ∙ length-map r.logs.logs (λ l. answer t.code l.rows) ∙ line.all_logs
 
-  pub answers_are : r.answers ≡ answers t vectors
-  answers_are =
-      let f = λ (g : ℕ). answer t.code (frozen vectors g) in
+  logs_answer : r.answers ≡ map (λ g. answer t.code (log_at r.logs.logs g).rows) (range_with_len 0 n)
+  logs_answer =
+      let f = λ (g : ℕ). answer t.code (log_at r.logs.logs g).rows in
       same_lists r.answers (map f (range_with_len 0 n)) (one_each ∙ sym (length-map-range_with_len f 0 n))
-      (λ g d near. answer_is g d (omega (arith, near, one_each)) ∙ sym (get_or-map-range_with_len f 0 n g g d (omega (arith, near, one_each)) (omega arith)))
-
-  -- the ranks
-  rank_is : (g : ℕ) → g < n → length (log_at r.logs.logs g).rows ≡ dimension (frozen vectors g)
-  rank_is g near =
-      let l = log_at r.logs.logs g in
-      sym (line.frozen g near).independent
-      ∙ dimension-same_span l.rows (frozen vectors g) (λ x. log-spans t (plan_of limits) gates r refl line g near x ∙ sym (in_span_innovative (rows_of g vectors) x))
-
-  outcomes_are : logged_outcomes n r.logs.logs r.answers ≡ outcomes_of t vectors
-  outcomes_are =
-      let f = logged r.logs.logs r.answers in
-      let h : ℕ → ℕ × Bool = λ g. (dimension (frozen vectors g), is_some (answer t.code (frozen vectors g))) in
-      let at : (g : ℕ) → g < n → f g ≡ h g = λ g below i. (rank_is g below i, is_some (answer_is g None below i)) in
-      same_lists (map f (range_with_len 0 n)) (map h (range_with_len 0 n)) (length-map-range_with_len f 0 n ∙ sym (length-map-range_with_len h 0 n))
       (λ g d near.
-      let below : g < n = omega (arith, near, length-map-range_with_len f 0 n) in
-      get_or-map-range_with_len f 0 n g g d below (omega arith)
-      ∙ at g below
-      ∙ sym (get_or-map-range_with_len h 0 n g g d below (omega arith)))
+      let below : g < n = omega (arith, near, one_each) in
+      ap (λ (x : List (Option (List ℕ))). get_or x g d) line.answers
+      ∙ map_at (λ (l : Log). answer t.code l.rows) r.logs.logs g d unseen (omega (arith, below, line.all_logs))
+      ∙ sym (get_or-map-range_with_len f 0 n g g d below (omega arith)))
 
-  -- the totals
-  ranks_are : sum_by (λ (l : Log). length l.rows) r.logs.logs ≡ sum_by (λ g. dimension (frozen vectors g)) (range_with_len 0 n)
-  ranks_are =
-      let rank = λ (l : Log). length l.rows in
-      let dim = λ (g : ℕ). dimension (frozen vectors g) in
-      sym (sum-map rank r.logs.logs)
-      ∙ ap (sum_by (λ k. k)) (same_lists (map rank r.logs.logs) (map dim (range_with_len 0 n))
-      (length-map r.logs.logs rank ∙ line.all_logs ∙ sym (length-map-range_with_len dim 0 n))
-      (λ g d near.
-      let below : g < n = omega (arith, near, length-map r.logs.logs rank, line.all_logs) in
-      map_at rank r.logs.logs g d unseen (omega (arith, below, line.all_logs)) ∙ rank_is g below ∙ sym (get_or-map-range_with_len dim 0 n g g d below (omega arith))))
-      ∙ sum-map dim (range_with_len 0 n)
+  told_report : (status : ℕ) → receiver_report status r.gates (logged_outcomes n r.logs.logs r.answers) r.totals ≡ view_report t limits gates r status
+  told_report status = ap (λ (cs : List GateCount). receiver_report status cs (logged_outcomes n r.logs.logs r.answers) r.totals) counts_are
 
-  totals_are : r.totals ≡ totals_of t vectors
-  totals_are =
-      let none = line.nobody_late refl in
-      let ranks = sums.innovative ∙ ranks_are in
-      same_totals sums.inserts ranks (omega (arith, sums.kinds, none, sums.inserts, ranks)) none
+  -- ---- what was sent
 
-  report_is : (status : ℕ) → receiver_report status r.gates (logged_outcomes n r.logs.logs r.answers) r.totals ≡ report_of t limits gates status
-  report_is status = λ i. receiver_report status (counts_are i) (outcomes_are i) (totals_are i)
+  module _ (ticket : IsTicket t) (sent : List ℕ) (is : IsFileOf t sent) where
+    file_by : ((g : ℕ) → g < n → Decodes t.code (log_at r.logs.logs g).rows (cut t.code sent g)) → file_of t r.answers ≡ Some sent
+    file_by decodes =
+        ap (file_of t) logs_answer
+        ∙ file_from_answers t sent (λ g. answer t.code (log_at r.logs.logs g).rows) ticket.code is.len is.bytes
+        (λ g below. answer-of_message t.code (ticket_code t ticket) (log_at r.logs.logs g).rows (cut t.code sent g) (decodes g below))
 
-  pub file_is : received t limits gates ≡ file_of t r.answers
-  file_is = received_is t limits gates ∙ ap (file_of t) (sym answers_are)
+    pub near_enough : ((g : ℕ) → g < n → distance (codeword t.code (cut t.code sent g)) (log_at r.logs.logs g).rows ≤ t.code.l - t.code.k) → file_of t r.answers ≡ Some sent
+    near_enough near = file_by (λ g below. record { message = cut_is_message t.code sent g; near = near g below })
 
-  -- ---- the status
+    pub tolerates : (tolerated : ℕ) → plan.goal ≡ Some (t.code.k + 2 * tolerated)
+        → ((g : ℕ) → g < n → IsTolerable t.code tolerated (rows_of g vectors) (cut t.code sent g))
+        → (file_of t r.answers ≡ Some sent) × (received t limits gates ≡ Some sent)
+    tolerates tolerated goal tolerable =
+        let code = ticket_code t ticket in
+        let both : (g : ℕ) → g < n → Decodes t.code (log_at r.logs.logs g).rows (cut t.code sent g) × Decodes t.code (rows_of g vectors) (cut t.code sent g) =
+        λ g below. frozen_rows_decode t.code code tolerated (log_at r.logs.logs g).rows (rows_of g vectors) (cut t.code sent g)
+        (subst (FrozenBy (log_at r.logs.logs g).rows (rows_of g vectors)) goal (line.frozen g below)) (tolerable g below) in (
+          file_by (λ g below. (both g below).0),
+          received_is t limits gates
+              ∙ file_from_answers t sent (λ g. answer t.code (frozen vectors g)) ticket.code is.len is.bytes
+              (λ g below. answer-same_span t.code (frozen vectors g) (rows_of g vectors) (in_span_innovative (rows_of g vectors))
+              ∙ answer-of_message t.code code (rows_of g vectors) (cut t.code sent g) (both g below).1),
+        )
 
-  abbrev fault : Bool
-  fault = some_fault (gate_counts t limits gates)
+  -- ---- with no goal
 
-  module _ (delivered told status : ℕ) (file report : Change SinkTold) (is_delivered : IsDelivered (file_of t r.answers) delivered file) (told_is : told ≡ after_gates delivered (some_fault r.gates))
-      (same : IsStatusOf told status) (five : CanCount report.old.faults → told ≡ 0 → (status ≡ 5) ↔ SinkFailed report)
-      (given : WasGiven (receiver_report told r.gates (logged_outcomes n r.logs.logs r.answers) r.totals) report) where
-    told_so : told ≡ after_gates delivered fault
-    told_so = told_is ∙ ap (after_gates delivered) fault_is_told
+  module _ (no_goal : plan.goal ≡ None) where
+    -- the answers
+    answer_is : (g : ℕ) (d : Option (List ℕ)) → g < n → get_or r.answers g d ≡ answer t.code (frozen vectors g)
+    answer_is g d near = answer-taken t plan gates r no_goal line g d near
+        ∙ sym (answer-same_span t.code (frozen vectors g) (rows_of g vectors) (in_span_innovative (rows_of g vectors)))
 
-    -- a file that isn't there is delivered by 3 alone
-    no_file : (received t limits gates ≡ None) ↔ (delivered ≡ 3)
-    no_file = (λ none. is_delivered.not_decoded.1 (sym file_is ∙ none), λ three. file_is ∙ is_delivered.not_decoded.0 three)
+    pub answers_are : r.answers ≡ answers t vectors
+    answers_are =
+        let f = λ (g : ℕ). answer t.code (frozen vectors g) in
+        same_lists r.answers (map f (range_with_len 0 n)) (one_each ∙ sym (length-map-range_with_len f 0 n))
+        (λ g d near. answer_is g d (omega (arith, near, one_each)) ∙ sym (get_or-map-range_with_len f 0 n g g d (omega (arith, near, one_each)) (omega arith)))
 
-    three_or_other : (b : Bool) → delivered ≡ 3 → after_gates delivered b ≡ (if b then 6 else 3)
-    three_or_other b three = ap (λ (d : ℕ). after_gates d b) three
+    -- the ranks
+    rank_is : (g : ℕ) → g < n → length (log_at r.logs.logs g).rows ≡ dimension (frozen vectors g)
+    rank_is g near =
+        let l = log_at r.logs.logs g in
+        sym (line.frozen g near).independent
+        ∙ dimension-same_span l.rows (frozen vectors g) (λ x. log-spans t plan gates r no_goal line g near x ∙ sym (in_span_innovative (rows_of g vectors) x))
 
-    other : (b : Bool) → MayTouchFile delivered → after_gates delivered b ≡ delivered
-    other b (inl zero_) = ap (λ (d : ℕ). after_gates d b) zero_ ∙ sym zero_
-    other b (inr five_) = ap (λ (d : ℕ). after_gates d b) five_ ∙ sym five_
+    outcomes_are : logged_outcomes n r.logs.logs r.answers ≡ outcomes_of t vectors
+    outcomes_are =
+        let f = logged r.logs.logs r.answers in
+        let h : ℕ → ℕ × Bool = λ g. (dimension (frozen vectors g), is_some (answer t.code (frozen vectors g))) in
+        let at : (g : ℕ) → g < n → f g ≡ h g = λ g below i. (rank_is g below i, is_some (answer_is g None below i)) in
+        same_lists (map f (range_with_len 0 n)) (map h (range_with_len 0 n)) (length-map-range_with_len f 0 n ∙ sym (length-map-range_with_len h 0 n))
+        (λ g d near.
+        let below : g < n = omega (arith, near, length-map-range_with_len f 0 n) in
+        get_or-map-range_with_len f 0 n g g d below (omega arith)
+        ∙ at g below
+        ∙ sym (get_or-map-range_with_len h 0 n g g d below (omega arith)))
 
-    -- what is told, by what was delivered and whether a gate failed
-    cases : ((delivered ≡ 3) × (fault ≡ true) × (told ≡ 6)) ⊎ (((delivered ≡ 3) × (fault ≡ false) × (told ≡ 3)) ⊎ (MayTouchFile delivered × (told ≡ delivered)))
-    cases = elim is_delivered.no_other [
-      | inl three ↦ by_fault fault refl three
-      | inr touched ↦ inr (inr (touched, told_so ∙ other fault touched))
-    ]
-      where
-        by_fault : (b : Bool) → fault ≡ b → delivered ≡ 3 → ((delivered ≡ 3) × (fault ≡ true) × (told ≡ 6)) ⊎ (((delivered ≡ 3) × (fault ≡ false) × (told ≡ 3)) ⊎ (MayTouchFile delivered × (told ≡ delivered)))
-        by_fault true is three = inl (three, is, told_so ∙ three_or_other fault three ∙ ap (λ (b : Bool). if b then 6 else 3) is)
-        by_fault false is three = inr (inl (three, is, told_so ∙ three_or_other fault three ∙ ap (λ (b : Bool). if b then 6 else 3) is))
+    -- the totals
+    ranks_are : sum_by (λ (l : Log). length l.rows) r.logs.logs ≡ sum_by (λ g. dimension (frozen vectors g)) (range_with_len 0 n)
+    ranks_are =
+        let rank = λ (l : Log). length l.rows in
+        let dim = λ (g : ℕ). dimension (frozen vectors g) in
+        sym (sum-map rank r.logs.logs)
+        ∙ ap (sum_by (λ k. k)) (same_lists (map rank r.logs.logs) (map dim (range_with_len 0 n))
+        (length-map r.logs.logs rank ∙ line.all_logs ∙ sym (length-map-range_with_len dim 0 n))
+        (λ g d near.
+        let below : g < n = omega (arith, near, length-map r.logs.logs rank, line.all_logs) in
+        map_at rank r.logs.logs g d unseen (omega (arith, below, line.all_logs)) ∙ rank_is g below ∙ sym (get_or-map-range_with_len dim 0 n g g d below (omega arith))))
+        ∙ sum-map dim (range_with_len 0 n)
 
-    pub is_receiver : (logs : List LogsView) → logs ≡ r.logs ∷ [] → IsReceiver t limits gates file report logs status
-    is_receiver logs kept = record {
-      not_decoded = (λ e. not_decoded_told e cases same, λ h. not_decoded_status h cases same);
-      gate_failed = (λ e. gate_failed_told e cases same, λ h. gate_failed_status h cases same);
-      gate_faults = gate_faults;
-      output_fault = λ can can_report touched. output can can_report touched cases same;
-      no_other_status = statuses cases same;
-      written = λ touched. subst (λ o. IsSomeAnd o (λ text. WasGiven text file)) (sym file_is) (is_delivered.written (touched_back cases same touched));
-      reported = record {
-        told = told;
-        same_or_five = same;
-        five = λ can touched. told_five can cases (touched_back cases same touched);
-        given = subst (λ text. WasGiven text report) (report_is told) given;
-      };
-      kept = (r, kept, line);
-    }
-      where
-        not_decoded_told : status ≡ 3 → ((delivered ≡ 3) × (fault ≡ true) × (told ≡ 6)) ⊎ (((delivered ≡ 3) × (fault ≡ false) × (told ≡ 3)) ⊎ (MayTouchFile delivered × (told ≡ delivered))) → IsStatusOf told status → (received t limits gates ≡ None) × (fault ≡ false)
-        not_decoded_told e (inl six) is = let is_six = six.2 in absurd (grind arith)
-        not_decoded_told e (inr (inl three)) is = (no_file.1 three.0, three.1)
-        not_decoded_told e (inr (inr touched)) is = let a = touched.0 in let b = touched.1 in absurd (grind arith)
+    totals_are : r.totals ≡ totals_of t vectors
+    totals_are =
+        let none = line.nobody_late no_goal in
+        let ranks = sums.innovative ∙ ranks_are in
+        same_totals sums.inserts ranks (omega (arith, sums.kinds, none, sums.inserts, ranks)) none
 
-        not_decoded_status : (received t limits gates ≡ None) × (fault ≡ false) → ((delivered ≡ 3) × (fault ≡ true) × (told ≡ 6)) ⊎ (((delivered ≡ 3) × (fault ≡ false) × (told ≡ 3)) ⊎ (MayTouchFile delivered × (told ≡ delivered))) → IsStatusOf told status → status ≡ 3
-        not_decoded_status h (inl six) is = absurd (true≢false (sym six.1 ∙ h.1))
-        not_decoded_status h (inr (inl three)) is = let is_three = three.2 in grind arith
-        not_decoded_status h (inr (inr touched)) is = let d = no_file.0 h.0 in let is_touched = touched.0 in absurd (grind arith)
+    pub report_is : (status : ℕ) → view_report t limits gates r status ≡ report_of t limits gates status
+    report_is status = λ i. receiver_report status (gate_counts t limits gates) (outcomes_are i) (totals_are i)
 
-        gate_failed_told : status ≡ 6 → ((delivered ≡ 3) × (fault ≡ true) × (told ≡ 6)) ⊎ (((delivered ≡ 3) × (fault ≡ false) × (told ≡ 3)) ⊎ (MayTouchFile delivered × (told ≡ delivered))) → IsStatusOf told status → (received t limits gates ≡ None) × (fault ≡ true)
-        gate_failed_told e (inl six) is = (no_file.1 six.0, six.1)
-        gate_failed_told e (inr (inl three)) is = let is_three = three.2 in absurd (grind arith)
-        gate_failed_told e (inr (inr touched)) is = let a = touched.0 in let b = touched.1 in absurd (grind arith)
+    pub file_is : received t limits gates ≡ file_of t r.answers
+    file_is = received_is t limits gates ∙ ap (file_of t) (sym answers_are)
 
-        gate_failed_status : (received t limits gates ≡ None) × (fault ≡ true) → ((delivered ≡ 3) × (fault ≡ true) × (told ≡ 6)) ⊎ (((delivered ≡ 3) × (fault ≡ false) × (told ≡ 3)) ⊎ (MayTouchFile delivered × (told ≡ delivered))) → IsStatusOf told status → status ≡ 6
-        gate_failed_status h (inl six) is = let is_six = six.2 in grind arith
-        gate_failed_status h (inr (inl three)) is = absurd (true≢false (sym h.1 ∙ three.1))
-        gate_failed_status h (inr (inr touched)) is = let d = no_file.0 h.0 in let is_touched = touched.0 in absurd (grind arith)
+-- ---- the status
 
-        statuses : ((delivered ≡ 3) × (fault ≡ true) × (told ≡ 6)) ⊎ (((delivered ≡ 3) × (fault ≡ false) × (told ≡ 3)) ⊎ (MayTouchFile delivered × (told ≡ delivered))) → IsStatusOf told status → (status ≡ 3) ⊎ ((status ≡ 6) ⊎ MayTouchFile status)
-        statuses (inl six) (inl s) = inr (inl (s ∙ six.2))
-        statuses (inl six) (inr z) = inr (inr (inr z.1))
-        statuses (inr (inl three)) (inl s) = inl (s ∙ three.2)
-        statuses (inr (inl three)) (inr z) = inr (inr (inr z.1))
-        statuses (inr (inr touched)) (inl s) = inr (inr (subst MayTouchFile (sym (s ∙ touched.1)) touched.0))
-        statuses (inr (inr touched)) (inr z) = inr (inr (inr z.1))
+module _ (made : Option (List ℕ)) (text_of : ℕ → List ℕ) (fault : Bool) (delivered told status : ℕ) (file report : Change SinkTold) (is_delivered : IsDelivered made delivered file) (told_so : told ≡ after_gates delivered fault)
+    (same : IsStatusOf told status) (five : CanCount report.old.faults → told ≡ 0 → (status ≡ 5) ↔ SinkFailed report) (given : WasGiven (text_of told) report) where
+  three_or_other : (b : Bool) → delivered ≡ 3 → after_gates delivered b ≡ (if b then 6 else 3)
+  three_or_other b three = ap (λ (d : ℕ). after_gates d b) three
 
-        touched_back : ((delivered ≡ 3) × (fault ≡ true) × (told ≡ 6)) ⊎ (((delivered ≡ 3) × (fault ≡ false) × (told ≡ 3)) ⊎ (MayTouchFile delivered × (told ≡ delivered))) → IsStatusOf told status → MayTouchFile status → MayTouchFile delivered
-        touched_back (inl six) is touched = let is_six = six.2 in absurd (grind arith)
-        touched_back (inr (inl three)) is touched = let is_three = three.2 in absurd (grind arith)
-        touched_back (inr (inr at)) is touched = at.0
+  other : (b : Bool) → MayTouchFile delivered → after_gates delivered b ≡ delivered
+  other b (inl zero_) = ap (λ (d : ℕ). after_gates d b) zero_ ∙ sym zero_
+  other b (inr five_) = ap (λ (d : ℕ). after_gates d b) five_ ∙ sym five_
 
-        told_five : CanCount file.old.faults → ((delivered ≡ 3) × (fault ≡ true) × (told ≡ 6)) ⊎ (((delivered ≡ 3) × (fault ≡ false) × (told ≡ 3)) ⊎ (MayTouchFile delivered × (told ≡ delivered))) → MayTouchFile delivered → (told ≡ 5) ↔ SinkFailed file
-        told_five can (inl six) touched = let is_three = six.0 in absurd (grind arith)
-        told_five can (inr (inl three)) touched = let is_three = three.0 in absurd (grind arith)
-        told_five can (inr (inr at)) touched = let exact = is_delivered.output_fault can touched in (λ e. exact.0 (sym at.1 ∙ e), λ failed. at.1 ∙ exact.1 failed)
+  -- what is told, by what was delivered and whether a gate failed
+  cases : ((delivered ≡ 3) × (fault ≡ true) × (told ≡ 6)) ⊎ (((delivered ≡ 3) × (fault ≡ false) × (told ≡ 3)) ⊎ (MayTouchFile delivered × (told ≡ delivered)))
+  cases = elim is_delivered.no_other [
+    | inl three ↦ by_fault fault refl three
+    | inr touched ↦ inr (inr (touched, told_so ∙ other fault touched))
+  ]
+    where
+      by_fault : (b : Bool) → fault ≡ b → delivered ≡ 3 → ((delivered ≡ 3) × (fault ≡ true) × (told ≡ 6)) ⊎ (((delivered ≡ 3) × (fault ≡ false) × (told ≡ 3)) ⊎ (MayTouchFile delivered × (told ≡ delivered)))
+      by_fault true is three = inl (three, is, told_so ∙ three_or_other fault three ∙ ap (λ (b : Bool). if b then 6 else 3) is)
+      by_fault false is three = inr (inl (three, is, told_so ∙ three_or_other fault three ∙ ap (λ (b : Bool). if b then 6 else 3) is))
 
-        output : CanCount file.old.faults → CanCount report.old.faults → MayTouchFile status → ((delivered ≡ 3) × (fault ≡ true) × (told ≡ 6)) ⊎ (((delivered ≡ 3) × (fault ≡ false) × (told ≡ 3)) ⊎ (MayTouchFile delivered × (told ≡ delivered))) → IsStatusOf told status → (status ≡ 5) ↔ (SinkFailed file ⊎ SinkFailed report)
-        output can can_report touched (inl six) is = let is_six = six.2 in absurd (grind arith)
-        output can can_report touched (inr (inl three)) is = let is_three = three.2 in absurd (grind arith)
-        output can can_report touched (inr (inr (inl zero_, at))) is =
-            let none : told ≡ 0 = at ∙ zero_ in
-            let kept : SinkFailed file → ⊥ = λ failed. let is_five = (is_delivered.output_fault can (inl zero_)).1 failed in omega (arith, zero_, is_five) in
-            (λ e. inr ((five can_report none).0 e), λ failed. elim failed [ inl file_failed ↦ absurd (kept file_failed) | inr report_failed ↦ (five can_report none).1 report_failed ])
-        output can can_report touched (inr (inr (inr is_five, at))) is =
-            let both : told ≡ 5 = at ∙ is_five in
-            let end : status ≡ 5 = elim is [ inl s ↦ s ∙ both | inr z ↦ z.1 ] in
-            (λ e. inl ((is_delivered.output_fault can (inr is_five)).0 is_five), λ _. end)
+  pub is_run : IsRunOf made text_of fault file report status
+  is_run = record {
+    not_decoded = (λ e. not_decoded_told e cases same, λ h. not_decoded_status h cases same);
+    gate_failed = (λ e. gate_failed_told e cases same, λ h. gate_failed_status h cases same);
+    output_fault = λ can can_report touched. output can can_report touched cases same;
+    no_other_status = statuses cases same;
+    written = λ touched. is_delivered.written (touched_back cases same touched);
+    reported = record {
+      told = told;
+      same_or_five = same;
+      five = λ can touched. told_five can cases (touched_back cases same touched);
+      given = given;
+    };
+  }
+    where
+      not_decoded_told : status ≡ 3 → ((delivered ≡ 3) × (fault ≡ true) × (told ≡ 6)) ⊎ (((delivered ≡ 3) × (fault ≡ false) × (told ≡ 3)) ⊎ (MayTouchFile delivered × (told ≡ delivered))) → IsStatusOf told status → (made ≡ None) × (fault ≡ false)
+      not_decoded_told e (inl six) is = let is_six = six.2 in absurd (grind arith)
+      not_decoded_told e (inr (inl three)) is = (is_delivered.not_decoded.0 three.0, three.1)
+      not_decoded_told e (inr (inr touched)) is = let a = touched.0 in let b = touched.1 in absurd (grind arith)
+
+      not_decoded_status : (made ≡ None) × (fault ≡ false) → ((delivered ≡ 3) × (fault ≡ true) × (told ≡ 6)) ⊎ (((delivered ≡ 3) × (fault ≡ false) × (told ≡ 3)) ⊎ (MayTouchFile delivered × (told ≡ delivered))) → IsStatusOf told status → status ≡ 3
+      not_decoded_status h (inl six) is = absurd (true≢false (sym six.1 ∙ h.1))
+      not_decoded_status h (inr (inl three)) is = let is_three = three.2 in grind arith
+      not_decoded_status h (inr (inr touched)) is = let d = is_delivered.not_decoded.1 h.0 in let is_touched = touched.0 in absurd (grind arith)
+
+      gate_failed_told : status ≡ 6 → ((delivered ≡ 3) × (fault ≡ true) × (told ≡ 6)) ⊎ (((delivered ≡ 3) × (fault ≡ false) × (told ≡ 3)) ⊎ (MayTouchFile delivered × (told ≡ delivered))) → IsStatusOf told status → (made ≡ None) × (fault ≡ true)
+      gate_failed_told e (inl six) is = (is_delivered.not_decoded.0 six.0, six.1)
+      gate_failed_told e (inr (inl three)) is = let is_three = three.2 in absurd (grind arith)
+      gate_failed_told e (inr (inr touched)) is = let a = touched.0 in let b = touched.1 in absurd (grind arith)
+
+      gate_failed_status : (made ≡ None) × (fault ≡ true) → ((delivered ≡ 3) × (fault ≡ true) × (told ≡ 6)) ⊎ (((delivered ≡ 3) × (fault ≡ false) × (told ≡ 3)) ⊎ (MayTouchFile delivered × (told ≡ delivered))) → IsStatusOf told status → status ≡ 6
+      gate_failed_status h (inl six) is = let is_six = six.2 in grind arith
+      gate_failed_status h (inr (inl three)) is = absurd (true≢false (sym h.1 ∙ three.1))
+      gate_failed_status h (inr (inr touched)) is = let d = is_delivered.not_decoded.1 h.0 in let is_touched = touched.0 in absurd (grind arith)
+
+      statuses : ((delivered ≡ 3) × (fault ≡ true) × (told ≡ 6)) ⊎ (((delivered ≡ 3) × (fault ≡ false) × (told ≡ 3)) ⊎ (MayTouchFile delivered × (told ≡ delivered))) → IsStatusOf told status → (status ≡ 3) ⊎ ((status ≡ 6) ⊎ MayTouchFile status)
+      statuses (inl six) (inl s) = inr (inl (s ∙ six.2))
+      statuses (inl six) (inr z) = inr (inr (inr z.1))
+      statuses (inr (inl three)) (inl s) = inl (s ∙ three.2)
+      statuses (inr (inl three)) (inr z) = inr (inr (inr z.1))
+      statuses (inr (inr touched)) (inl s) = inr (inr (subst MayTouchFile (sym (s ∙ touched.1)) touched.0))
+      statuses (inr (inr touched)) (inr z) = inr (inr (inr z.1))
+
+      touched_back : ((delivered ≡ 3) × (fault ≡ true) × (told ≡ 6)) ⊎ (((delivered ≡ 3) × (fault ≡ false) × (told ≡ 3)) ⊎ (MayTouchFile delivered × (told ≡ delivered))) → IsStatusOf told status → MayTouchFile status → MayTouchFile delivered
+      touched_back (inl six) is touched = let is_six = six.2 in absurd (grind arith)
+      touched_back (inr (inl three)) is touched = let is_three = three.2 in absurd (grind arith)
+      touched_back (inr (inr at)) is touched = at.0
+
+      told_five : CanCount file.old.faults → ((delivered ≡ 3) × (fault ≡ true) × (told ≡ 6)) ⊎ (((delivered ≡ 3) × (fault ≡ false) × (told ≡ 3)) ⊎ (MayTouchFile delivered × (told ≡ delivered))) → MayTouchFile delivered → (told ≡ 5) ↔ SinkFailed file
+      told_five can (inl six) touched = let is_three = six.0 in absurd (grind arith)
+      told_five can (inr (inl three)) touched = let is_three = three.0 in absurd (grind arith)
+      told_five can (inr (inr at)) touched = let exact = is_delivered.output_fault can touched in (λ e. exact.0 (sym at.1 ∙ e), λ failed. at.1 ∙ exact.1 failed)
+
+      output : CanCount file.old.faults → CanCount report.old.faults → MayTouchFile status → ((delivered ≡ 3) × (fault ≡ true) × (told ≡ 6)) ⊎ (((delivered ≡ 3) × (fault ≡ false) × (told ≡ 3)) ⊎ (MayTouchFile delivered × (told ≡ delivered))) → IsStatusOf told status → (status ≡ 5) ↔ (SinkFailed file ⊎ SinkFailed report)
+      output can can_report touched (inl six) is = let is_six = six.2 in absurd (grind arith)
+      output can can_report touched (inr (inl three)) is = let is_three = three.2 in absurd (grind arith)
+      output can can_report touched (inr (inr (inl zero_, at))) is =
+          let none : told ≡ 0 = at ∙ zero_ in
+          let kept : SinkFailed file → ⊥ = λ failed. let is_five = (is_delivered.output_fault can (inl zero_)).1 failed in omega (arith, zero_, is_five) in
+          (λ e. inr ((five can_report none).0 e), λ failed. elim failed [ inl file_failed ↦ absurd (kept file_failed) | inr report_failed ↦ (five can_report none).1 report_failed ])
+      output can can_report touched (inr (inr (inr is_five, at))) is =
+          let both : told ≡ 5 = at ∙ is_five in
+          let end : status ≡ 5 = elim is [ inl s ↦ s ∙ both | inr z ↦ z.1 ] in
+          (λ e. inl ((is_delivered.output_fault can (inr is_five)).0 is_five), λ _. end)
+
+-- ---- all together
+
+module _ (t : TicketFields) (plan : Plan) (gates : List (Change GateTold)) (r : ReceivedView) (line : Headline t plan gates r) (sums : AddUp t plan gates r) (ticket : IsTicket t) where
+  pub is_receiver : (delivered told status : ℕ) (file report : Change SinkTold) → IsDelivered (file_of t r.answers) delivered file → told ≡ after_gates delivered (some_fault r.gates)
+      → IsStatusOf told status → (CanCount report.old.faults → told ≡ 0 → (status ≡ 5) ↔ SinkFailed report)
+      → WasGiven (receiver_report told r.gates (logged_outcomes (generations t) r.logs.logs r.answers) r.totals) report
+      → (logs : List LogsView) → logs ≡ r.logs ∷ [] → IsReceiver t plan gates file report logs status
+  is_receiver delivered told status file report is_delivered told_is same five given logs kept =
+      let fault = some_fault (gate_counts t plan.limits gates) in
+      let told_so : told ≡ after_gates delivered fault = told_is ∙ ap (after_gates delivered) (fault_is_told t plan gates r line sums) in
+      let given_view = subst (λ text. WasGiven text report) (told_report t plan gates r line sums told) given in
+      record {
+        view = r;
+        kept = kept;
+        headline = line;
+        add_up = sums;
+        gate_faults = gate_faults t plan gates r line sums;
+        run = is_run (file_of t r.answers) (view_report t plan.limits gates r) fault delivered told status file report is_delivered told_so same five given_view;
+        one_function = λ no_goal. is_run (received t plan.limits gates) (report_of t plan.limits gates) fault delivered told status file report
+            (subst (λ o. IsDelivered o delivered file) (sym (file_is t plan gates r line sums no_goal)) is_delivered) told_so same five
+            (subst (λ text. WasGiven text report) (report_is t plan gates r line sums no_goal told) given_view);
+        near_enough = λ sent is. near_enough t plan gates r line sums ticket sent is;
+        tolerates = λ tolerated sent goal is. tolerates t plan gates r line sums ticket sent is tolerated goal;
+      }
+
+-- ---- a file without bytes
+
+-- a file with no bytes is one of length 0
+pub no_length : (t : TicketFields) (found : List (Option (List ℕ))) → file_of t found ≡ Some [] → t.length ≡ 0
+no_length t found none = go (all_messages found) none
+  where
+    go : (o : Option (List (List ℕ))) → option_map (joined t.code t.length) o ≡ Some [] → t.length ≡ 0
+    go None e = absurd (true≢false (sym (ap is_some e)))
+    go (Some ms) e = sym (length-map-range_with_len (λ i. number_from (message_bit t.code ms) (8 * i) 8) 0 t.length) ∙ ap (λ (x : List ℕ). length x) (same_Some _ _ e)
+
+pub none_received : (t : TicketFields) (limits : Limits) (gates : List (Change GateTold)) → received t limits gates ≡ Some [] → t.length ≡ 0
+none_received t limits gates none = no_length t (answers t (all_taken t limits gates)) (sym (received_is t limits gates) ∙ none)
+
+no_boxes : (b : ℕ) → 0 < b → (8 * 0 + (b - 1)) / b ≡ 0
+no_boxes b some =
+    let below : 8 * 0 + (b - 1) < b = omega (arith, some) in
+    div-eq_of_lt below
+
+no_answers : (t : TicketFields) (found : List (Option (List ℕ))) → length found ≡ 0 → t.length ≡ 0 → file_of t found ≡ Some []
+unfolding all_messages
+no_answers t [] none empty = ap (λ (len : ℕ). Some (joined t.code len [])) empty
+no_answers t (x ∷ xs) none empty = absurd (omega (arith, none))
+
+-- a file of length 0 has no generations
+pub empty_file : (t : TicketFields) (found : List (Option (List ℕ))) → IsTicket t → length found ≡ generations t → t.length ≡ 0 → file_of t found ≡ Some []
+empty_file t found ticket same empty =
+    no_answers t found (same ∙ ap (λ (len : ℕ). (8 * len + (message_bits t.code - 1)) / message_bits t.code) empty ∙ no_boxes (message_bits t.code) (message_bits_some t.code ticket.code)) empty

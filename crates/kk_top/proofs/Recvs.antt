@@ -1,5 +1,5 @@
 -- What words ask of `recv`, the ranges of its order, and what it promises at each of its ends.
-use Rattle.std.proofs.Common.{◌≡◌, ◌⊎◌, inl, inr, ℕ, ◌+◌, ◌<◌, ◌≤◌, List, length, Some, None, ap, sym, subst, ◌∙◌, arith}
+use Rattle.std.proofs.Common.{◌≡◌, ◌⊎◌, inl, inr, ℕ, ◌+◌, ◌*◌, ◌<◌, ◌≤◌, ◌||◌, Bool, true, false, if◌then◌else◌, nat_lt, List, length, Option, Some, None, refl, ap, sym, subst, ◌∙◌, arith}
 use Rattle.std.specs.Prelude.{is_some, slice_get}
 use Rattle.std.proofs.lemmas.Bool.{false≢true}
 use Rattle.std.proofs.lemmas.Bool.Decides.{nat_tests}
@@ -11,8 +11,9 @@ use Rattle.kk_code.specs.Ticket.{TicketFields}
 use Rattle.kk_code.specs.TicketText.{IsTicketText, spelled}
 use Rattle.kk_table.specs.Logs.{LogsView}
 use Rattle.kk_words.specs.declared.command.Command.TheVariants.{Recv}
-use Rattle.kk_words.specs.declared.argument.Name.TheVariants.{Idle, Most}
+use Rattle.kk_words.specs.declared.argument.Name.TheVariants.{Idle, Most, Tolerate}
 use Rattle.kk_words.specs.Request.{Request, number_of}
+use Rattle.kk_workers.specs.declared.plan.Plan.{Plan}
 use Rattle.kk_workers.specs.declared.running.TheConstants.{MAX_GATES}
 use Rattle.kk_top.specs.declared.refusal.Refusal.{Refusal}
 use Rattle.kk_top.specs.declared.refusal.Refusal.TheVariants.{Words, Ticket, Seed, Range, Listen, Input, Length, Outlet, Memory}
@@ -22,47 +23,97 @@ use Rattle.kk_top.specs.Receiver.{IsReceiver}
 use Rattle.kk_top.specs.Refusal.{status_of, refusal_text}
 use Rattle.kk_top.specs.TicketWord.{NamesTicketFor}
 use Rattle.kk_top.specs.Words.{IsRequestFor}
-use Rattle.kk_top.specs.commands.Recv.{Order, AsksToReceive, broken_range, OrdersReceiving, BreaksRange, IsRefusedFor, Receives}
+use Rattle.kk_top.specs.commands.Recv.{Order, AsksToReceive, is_beyond, plan_of, broken_range, OrdersReceiving, BreaksRange, IsRefusedFor, Receives}
 use Rattle.kk_top.proofs.TicketWords.{same_request_for, ticket_or_none}
 
-abbrev pub order_of : TicketFields → ℕ → ℕ → ℕ → Order
-order_of t addresses idle most = record { ticket = t; addresses = addresses; limits = record { idle = idle; most = most } }
+abbrev pub order_of : TicketFields → ℕ → ℕ → ℕ → Option ℕ → Order
+order_of t addresses idle most tolerated =
+    record { ticket = t; addresses = addresses; limits = record { idle = idle; most = most }; tolerated = tolerated }
 
 -- ---- the ranges
 
 -- an order by its parts, of which a range is broken
-pub breaks : (words : List (List ℕ)) (request : Request) (text : List ℕ) (t : TicketFields) (addresses idle most : ℕ) (why : Refusal) → IsRequestFor words Recv request → slice_get request.texts 0 ≡ Some text → IsTicketText text t → length request.texts ≡ addresses + 1 → number_of request.numbers Idle ≡ Some idle → number_of request.numbers Most ≡ Some most → broken_range (order_of t addresses idle most) ≡ Some why → BreaksRange words why
-breaks words request text t addresses idle most why asked first ticket is_addresses is_idle is_most broken = record {
-  order = order_of t addresses idle most;
-  asks = record { request = request; asked = asked; text = text; first = first; ticket = ticket; addresses = is_addresses; idle = is_idle; most = is_most };
+pub breaks : (words : List (List ℕ)) (request : Request) (text : List ℕ) (t : TicketFields) (addresses idle most : ℕ) (tolerated : Option ℕ) (why : Refusal) → IsRequestFor words Recv request → slice_get request.texts 0 ≡ Some text → IsTicketText text t → length request.texts ≡ addresses + 1 → number_of request.numbers Idle ≡ Some idle → number_of request.numbers Most ≡ Some most → number_of request.numbers Tolerate ≡ tolerated → broken_range (order_of t addresses idle most tolerated) ≡ Some why → BreaksRange words why
+breaks words request text t addresses idle most tolerated why asked first ticket is_addresses is_idle is_most is_tolerated broken = record {
+  order = order_of t addresses idle most tolerated;
+  asks = record { request = request; asked = asked; text = text; first = first; ticket = ticket; addresses = is_addresses; idle = is_idle; most = is_most; tolerated = is_tolerated };
   broken = broken;
 }
 
 -- and one of which none is
-pub orders : (words : List (List ℕ)) (request : Request) (text : List ℕ) (t : TicketFields) (addresses idle most : ℕ) → IsRequestFor words Recv request → slice_get request.texts 0 ≡ Some text → IsTicketText text t → length request.texts ≡ addresses + 1 → number_of request.numbers Idle ≡ Some idle → number_of request.numbers Most ≡ Some most → broken_range (order_of t addresses idle most) ≡ None → OrdersReceiving words (order_of t addresses idle most)
-orders words request text t addresses idle most asked first ticket is_addresses is_idle is_most kept = record {
-  asks = record { request = request; asked = asked; text = text; first = first; ticket = ticket; addresses = is_addresses; idle = is_idle; most = is_most };
+pub orders : (words : List (List ℕ)) (request : Request) (text : List ℕ) (t : TicketFields) (addresses idle most : ℕ) (tolerated : Option ℕ) → IsRequestFor words Recv request → slice_get request.texts 0 ≡ Some text → IsTicketText text t → length request.texts ≡ addresses + 1 → number_of request.numbers Idle ≡ Some idle → number_of request.numbers Most ≡ Some most → number_of request.numbers Tolerate ≡ tolerated → broken_range (order_of t addresses idle most tolerated) ≡ None → OrdersReceiving words (order_of t addresses idle most tolerated)
+orders words request text t addresses idle most tolerated asked first ticket is_addresses is_idle is_most is_tolerated kept = record {
+  asks = record { request = request; asked = asked; text = text; first = first; ticket = ticket; addresses = is_addresses; idle = is_idle; most = is_most; tolerated = is_tolerated };
   in_range = kept;
 }
 
-pub broken_idle : (t : TicketFields) (addresses idle most : ℕ) → (idle < 1) ⊎ (MAX_IDLE < idle) → broken_range (order_of t addresses idle most) ≡ Some (Range Idle)
-broken_idle t addresses idle most out = grind (arith, nat_tests)
+-- a number is outside of its range, or within it
+outside : (x low high : ℕ) → (x < low) ⊎ (high < x) → (nat_lt x low || nat_lt high x) ≡ true
+outside x low high out = grind (arith, nat_tests)
 
-pub broken_most : (t : TicketFields) (addresses idle most : ℕ) → (idle < 1 → ⊥) → (MAX_IDLE < idle → ⊥) → (most < 1) ⊎ (MAX_MOST < most) → broken_range (order_of t addresses idle most) ≡ Some (Range Most)
-broken_most t addresses idle most some short out = grind (arith, nat_tests)
+inside : (x low high : ℕ) → (x < low → ⊥) → (high < x → ⊥) → (nat_lt x low || nat_lt high x) ≡ false
+inside x low high some few = grind (arith, nat_tests)
 
-pub broken_listen : (t : TicketFields) (addresses idle most : ℕ) → (idle < 1 → ⊥) → (MAX_IDLE < idle → ⊥) → (most < 1 → ⊥) → (MAX_MOST < most → ⊥) → MAX_GATES < addresses → broken_range (order_of t addresses idle most) ≡ Some Listen
-broken_listen t addresses idle most some short any few many = grind (arith, nat_tests)
+at_least : (x low high : ℕ) → (nat_lt x low || nat_lt high x) ≡ false → low ≤ x
+at_least x low high is = grind (arith, nat_tests)
 
-pub none_broken : (t : TicketFields) (addresses idle most : ℕ) → (idle < 1 → ⊥) → (MAX_IDLE < idle → ⊥) → (most < 1 → ⊥) → (MAX_MOST < most → ⊥) → (MAX_GATES < addresses → ⊥) → broken_range (order_of t addresses idle most) ≡ None
-none_broken t addresses idle most some short any few heard = grind (arith, nat_tests)
+more : (x high : ℕ) → high < x → nat_lt high x ≡ true
+more x high is = grind (arith, nat_tests)
+
+no_more : (x high : ℕ) → (high < x → ⊥) → nat_lt high x ≡ false
+no_more x high is = grind (arith, nat_tests)
+
+-- the first range that is broken, by the tests of idle, most, tolerate and listen
+abbrev first_broken : Bool → Bool → Bool → Bool → Option Refusal
+first_broken idle most tolerate listen =
+    if idle then Some (Range Idle) else (if most then Some (Range Most) else (if tolerate then Some (Range Tolerate) else (if listen then Some Listen else None)))
+
+module _ (t : TicketFields) (addresses idle most : ℕ) (tolerated : Option ℕ) where
+  abbrev tests : Bool → Bool → Bool → Option Refusal
+  tests of_idle of_most of_tolerate = first_broken of_idle of_most of_tolerate (nat_lt MAX_GATES addresses)
+
+  pub broken_idle : (idle < 1) ⊎ (MAX_IDLE < idle) → broken_range (order_of t addresses idle most tolerated) ≡ Some (Range Idle)
+  broken_idle out = ap (λ (b : Bool). tests b (nat_lt most 1 || nat_lt MAX_MOST most) (is_beyond t tolerated)) (outside idle 1 MAX_IDLE out)
+
+  pub broken_most : (idle < 1 → ⊥) → (MAX_IDLE < idle → ⊥) → (most < 1) ⊎ (MAX_MOST < most) → broken_range (order_of t addresses idle most tolerated) ≡ Some (Range Most)
+  broken_most some short out = λ i. tests (inside idle 1 MAX_IDLE some short i) (outside most 1 MAX_MOST out i) (is_beyond t tolerated)
+
+  pub broken_tolerate : (idle < 1 → ⊥) → (MAX_IDLE < idle → ⊥) → (most < 1 → ⊥) → (MAX_MOST < most → ⊥) → is_beyond t tolerated ≡ true → broken_range (order_of t addresses idle most tolerated) ≡ Some (Range Tolerate)
+  broken_tolerate some short any few beyond = λ i. tests (inside idle 1 MAX_IDLE some short i) (inside most 1 MAX_MOST any few i) (beyond i)
+
+  pub broken_listen : (idle < 1 → ⊥) → (MAX_IDLE < idle → ⊥) → (most < 1 → ⊥) → (MAX_MOST < most → ⊥) → is_beyond t tolerated ≡ false → MAX_GATES < addresses → broken_range (order_of t addresses idle most tolerated) ≡ Some Listen
+  broken_listen some short any few kept many = λ i. first_broken (inside idle 1 MAX_IDLE some short i) (inside most 1 MAX_MOST any few i) (kept i) (more addresses MAX_GATES many i)
+
+  pub none_broken : (idle < 1 → ⊥) → (MAX_IDLE < idle → ⊥) → (most < 1 → ⊥) → (MAX_MOST < most → ⊥) → is_beyond t tolerated ≡ false → (MAX_GATES < addresses → ⊥) → broken_range (order_of t addresses idle most tolerated) ≡ None
+  none_broken some short any few kept heard = λ i. first_broken (inside idle 1 MAX_IDLE some short i) (inside most 1 MAX_MOST any few i) (kept i) (no_more addresses MAX_GATES heard i)
+
+no_cause : {X : Type 0} (why : Refusal) → Some why ≡ None → X
+no_cause why is = absurd (false≢true (sym (ap is_some is)))
 
 -- a gate is given up after a quiet at the soonest, and takes a datagram at least
-pub kept_idle : (t : TicketFields) (addresses idle most : ℕ) → broken_range (order_of t addresses idle most) ≡ None → 1 ≤ idle
-kept_idle t addresses idle most kept = grind (arith, nat_tests)
+pub kept_idle : (order : Order) → broken_range order ≡ None → 1 ≤ order.limits.idle
+kept_idle order kept = go (nat_lt order.limits.idle 1 || nat_lt MAX_IDLE order.limits.idle) refl kept
+  where
+    go : (b : Bool) → (nat_lt order.limits.idle 1 || nat_lt MAX_IDLE order.limits.idle) ≡ b
+        → first_broken b (nat_lt order.limits.most 1 || nat_lt MAX_MOST order.limits.most) (is_beyond order.ticket order.tolerated) (nat_lt MAX_GATES order.addresses) ≡ None → 1 ≤ order.limits.idle
+    go true is kept = no_cause (Range Idle) kept
+    go false is kept = at_least order.limits.idle 1 MAX_IDLE is
 
-pub kept_most : (t : TicketFields) (addresses idle most : ℕ) → broken_range (order_of t addresses idle most) ≡ None → 1 ≤ most
-kept_most t addresses idle most kept = grind (arith, nat_tests)
+pub kept_most : (order : Order) → broken_range order ≡ None → 1 ≤ order.limits.most
+kept_most order kept = go (nat_lt order.limits.idle 1 || nat_lt MAX_IDLE order.limits.idle) (nat_lt order.limits.most 1 || nat_lt MAX_MOST order.limits.most) refl kept
+  where
+    go : (a b : Bool) → (nat_lt order.limits.most 1 || nat_lt MAX_MOST order.limits.most) ≡ b
+        → first_broken a b (is_beyond order.ticket order.tolerated) (nat_lt MAX_GATES order.addresses) ≡ None → 1 ≤ order.limits.most
+    go true b is kept = no_cause (Range Idle) kept
+    go false true is kept = no_cause (Range Most) kept
+    go false false is kept = at_least order.limits.most 1 MAX_MOST is
+
+-- the goal of a number of tolerated dimensions
+pub beyond_at : (t : TicketFields) (n : ℕ) → t.code.l < t.code.k + 2 * n → is_beyond t (Some n) ≡ true
+beyond_at t n is = more (t.code.k + 2 * n) t.code.l is
+
+pub within_at : (t : TicketFields) (n : ℕ) → (t.code.l < t.code.k + 2 * n → ⊥) → is_beyond t (Some n) ≡ false
+within_at t n is = no_more (t.code.k + 2 * n) t.code.l is
 
 -- ---- what words ask for
 
@@ -75,7 +126,8 @@ same_order words a b one other =
     let addresses : a.addresses ≡ b.addresses = omega (arith, one.addresses, other.addresses, ap (λ (r : Request). length r.texts) same) in
     let idle = same_Some _ _ (sym one.idle ∙ ap (λ (r : Request). number_of r.numbers Idle) same ∙ other.idle) in
     let most = same_Some _ _ (sym one.most ∙ ap (λ (r : Request). number_of r.numbers Most) same ∙ other.most) in
-    λ i. record { ticket = ticket i; addresses = addresses i; limits = record { idle = idle i; most = most i } }
+    let tolerated : a.tolerated ≡ b.tolerated = sym one.tolerated ∙ ap (λ (r : Request). number_of r.numbers Tolerate) same ∙ other.tolerated in
+    λ i. record { ticket = ticket i; addresses = addresses i; limits = record { idle = idle i; most = most i }; tolerated = tolerated i }
 
 names_ticket : (words : List (List ℕ)) (order : Order) → AsksToReceive words order → NamesTicketFor Recv words order.ticket
 names_ticket words order asks = record { request = asks.request; asked = asks.asked; text = asks.text; first = asks.first; ticket = asks.ticket }
@@ -146,16 +198,17 @@ recv_refused words Memory gates file report logs status why is given = record {
 ran_on : (status : ℕ) → (status ≡ 3) ⊎ ((status ≡ 6) ⊎ MayTouchFile status) → EndedAtOnce status → ⊥
 ran_on status is at_once = grind arith
 
-pub recv_received : (words : List (List ℕ)) (order : Order) (gates : List (Change GateTold)) (file report : Change SinkTold) (logs : List LogsView) (status : ℕ)
-    → OrdersReceiving words order → IsReceiver order.ticket order.limits gates file report logs status → Receives words gates file report logs status
-recv_received words order gates file report logs status orders run =
-    let accepted : EndedAtOnce status → ⊥ = ran_on status run.no_other_status in
+pub recv_received : (words : List (List ℕ)) (order : Order) (t : TicketFields) (plan : Plan) (gates : List (Change GateTold)) (file report : Change SinkTold) (logs : List LogsView) (status : ℕ)
+    → OrdersReceiving words order → order.ticket ≡ t → plan_of order ≡ plan → IsReceiver t plan gates file report logs status → Receives words gates file report logs status
+recv_received words order t plan gates file report logs status orders ticket_is plan_is run =
+    let accepted : EndedAtOnce status → ⊥ = ran_on status run.run.no_other_status in
     record {
       words_refused = λ _. (λ e. absurd (accepted (inl e)), λ none. absurd (none orders.asks.request orders.asks.asked));
       ticket_refused = λ _. (λ e. absurd (accepted (inr (inl e))), λ none. absurd (ticket_or_none Recv words order.ticket none.0 (names_ticket words order orders.asks) none.1));
       range_refused = λ _. (λ e. absurd (accepted (inr (inr (inr e)))), λ range. absurd (kept_or_broken words order range.0 orders range.1));
-      no_other_status = inr run.no_other_status;
+      no_other_status = inr run.run.no_other_status;
       refused = λ is. absurd (accepted is);
       received = λ other others _.
-          subst (λ (o : Order). IsReceiver o.ticket o.limits gates file report logs status) (same_orders words order other orders others) run;
+          let own = subst (λ (p : Plan). IsReceiver order.ticket p gates file report logs status) (sym plan_is) (subst (λ (x : TicketFields). IsReceiver x plan gates file report logs status) (sym ticket_is) run) in
+          subst (λ (o : Order). IsReceiver o.ticket (plan_of o) gates file report logs status) (same_orders words order other orders others) own;
     }

@@ -1,16 +1,16 @@
 //! A receiver with several gates, under a ticket.
-ghost use Rattle.std.specs.Prelude.{◌≡◌, ◌≤◌, [], Some, length, vec_len, IfOk, OnOk, OnErr};
+ghost use Rattle.std.specs.Prelude.{◌≡◌, ◌≤◌, [], length, vec_len, IfOk, OnOk, OnErr};
 ghost use Rattle.kk_outside.specs.Change.{change};
 ghost use Rattle.kk_workers.specs.Headline.{changes};
 ghost use Rattle.kk_top.specs.Command.{MayTouchFile};
-ghost use Rattle.kk_top.specs.Receiver.{received, is_fault, some_fault, after_gates, IsReceiver};
+ghost use Rattle.kk_top.specs.Receiver.{is_fault, some_fault, after_gates, IsReceiver};
 ghost use Rattle.kk_top.specs.Status.{code_of};
 
 use crate::delivery::deliver;
 use crate::receiver_report::{Extent, tell_received};
 use crate::status::Status;
 use kk_code::Ticket;
-use kk_frame::{Ended, Limits};
+use kk_frame::Ended;
 use kk_outside::{Alloc, Gate, Sink};
 use kk_table::Logs;
 use kk_workers::{Plan, Received, receive};
@@ -27,21 +27,21 @@ pub(crate) fn receive_under<R: Threads + Sync, K: Sink, P: Sink, G: Gate + Send>
     rt: &R,
     alloc: Global,
     ticket: &Ticket,
-    limits: Limits,
+    plan: &Plan,
     file: &mut K,
     report: &mut P,
     gates: &mut Vec<G>,
     logs: &mut Vec<Logs>,
 ) -> Result<u8, Alloc>
     requires few { length gates.old.items ≤ 16 }
-    requires idle { 1 ≤ limits.idle }
-    requires most { 1 ≤ limits.most }
+    requires idle { 1 ≤ plan.now.limits.idle }
+    requires most { 1 ≤ plan.now.limits.most }
     requires no_logs { logs.old.items ≡ [] }
-    ensures receiver { IfOk result (IsReceiver ticket.now limits (changes G.told gates.old.items gates.new.items)
+    ensures receiver { IfOk result (IsReceiver ticket.now plan.now (changes G.told gates.old.items gates.new.items)
         (change (K.told file.old) (K.told file.new)) (change (P.told report.old) (P.told report.new)) logs.new.items) }
     ensures same_gates { OnOk result (length gates.new.items ≡ length gates.old.items) }
     ensures unwritten { IfOk result (λ status. (MayTouchFile status → ⊥) → file.new ≡ file.old) }
-    ensures no_bytes { OnOk result (received ticket.now limits (changes G.told gates.old.items gates.new.items) ≡ Some [] → file.new ≡ file.old) }
+    ensures no_bytes { OnOk result (ticket.now.length ≡ 0 → file.new ≡ file.old) }
 
     // Without memory nothing was called.
     ensures unasked { OnErr result (gates.new.items ≡ gates.old.items) }
@@ -50,8 +50,7 @@ pub(crate) fn receive_under<R: Threads + Sync, K: Sink, P: Sink, G: Gate + Send>
 {
     let mut bytes = room_of(alloc, ticket)?;
     logs.reserve(1)?;
-    let plan = Plan { limits, goal: None };
-    let received = receive(rt, alloc, ticket, gates, &plan)?;
+    let received = receive(rt, alloc, ticket, gates, plan)?;
     let extent = Extent {
         gates: gates.len(),
         generations: ticket.generations(),

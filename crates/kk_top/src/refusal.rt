@@ -128,6 +128,7 @@ fn range_cause(name: Name) -> Line
         Name::Rate => line_of("range rate"),
         Name::Idle => line_of("range idle"),
         Name::Most => line_of("range most"),
+        Name::Tolerate => line_of("range tolerate"),
     }
 }
 

@@ -32,18 +32,20 @@ text_of_name name.Pack = codes "pack"
 text_of_name name.Rate = codes "rate"
 text_of_name name.Idle = codes "idle"
 text_of_name name.Most = codes "most"
+text_of_name name.Tolerate = codes "tolerate"
 
 -- the long name of the option of a seed
 abbrev pub seed_name : List ℕ
 seed_name = codes "seed"
 
--- the number of an option that is left out
+-- the number of an option that is left out, where it has one then
 abbrev pub default_of : Name → Option ℕ
 default_of name.Extra = Some 0
 default_of name.Pack = Some 32
 default_of name.Rate = Some 1
 default_of name.Idle = Some 300
 default_of name.Most = Some 10000000
+default_of name.Tolerate = None
 
 -- the reader of an unsigned 64-bit number
 abbrev pub unsigned_64 : ValueParser

@@ -36,7 +36,8 @@ form_of Send =
     argument.Word word.Ticket ∷ argument.Word word.Target ∷ argument.Seed ∷ argument.Number name.Extra ∷ argument.Number name.Pack ∷ []
 form_of Relay = argument.Word word.Ticket ∷ argument.Word word.Target ∷ argument.Word word.Listen ∷ argument.Seed
     ∷ argument.Number name.Rate ∷ argument.Number name.Idle ∷ argument.Number name.Most ∷ []
-form_of Recv = argument.Word word.Ticket ∷ argument.Words word.Listen ∷ argument.Number name.Idle ∷ argument.Number name.Most ∷ []
+form_of Recv = argument.Word word.Ticket ∷ argument.Words word.Listen
+    ∷ argument.Number name.Idle ∷ argument.Number name.Most ∷ argument.Number name.Tolerate ∷ []
 
 -- clap's simple command of a name and arguments, without the options --help and --version, and with nothing else set
 abbrev pub app_with : Text → List Rule → App

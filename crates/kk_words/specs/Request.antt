@@ -10,7 +10,7 @@ use Rattle.kk_words.specs.declared.argument.Argument.{Argument}
 use Rattle.kk_words.specs.declared.argument.Argument.TheVariants.{Word, Words, Seed, Number}
 use Rattle.kk_words.specs.declared.argument.Word.{Word as TheWord}
 use Rattle.kk_words.specs.declared.argument.Name.{Name}
-use Rattle.kk_words.specs.declared.argument.Name.TheVariants.{Extra, Pack as FramesOfDatagram, Rate, Idle, Most}
+use Rattle.kk_words.specs.declared.argument.Name.TheVariants.{Extra, Pack as FramesOfDatagram, Rate, Idle, Most, Tolerate}
 use Rattle.kk_words.specs.declared.command.Command.{Command}
 use Rattle.kk_words.specs.declared.command.Command.TheVariants as command
 use Rattle.kk_words.specs.Arguments.{default_of, seed_name, text_of_name, text_of_word, unsigned_64}
@@ -77,6 +77,7 @@ is_name FramesOfDatagram FramesOfDatagram = true
 is_name Rate Rate = true
 is_name Idle Idle = true
 is_name Most Most = true
+is_name Tolerate Tolerate = true
 is_name m n = false
 
 abbrev pub is_number : Name → Argument → Bool

@@ -53,6 +53,8 @@ pub enum Name {
     Idle,
     /// How many datagrams are taken of a gate.
     Most,
+    /// How many injected dimensions of each generation are tolerated.
+    Tolerate,
 }
 
 impl Name {
@@ -66,10 +68,11 @@ impl Name {
             Name::Rate => "rate",
             Name::Idle => "idle",
             Name::Most => "most",
+            Name::Tolerate => "tolerate",
         }
     }
 
-    /// The number where none is given.
+    /// The number where none is given, if there is one then.
     pub(crate) fn default(self) -> Option<u64>
         ensures { result ≡ default_of self }
     {
@@ -79,6 +82,7 @@ impl Name {
             Name::Rate => Some(1),
             Name::Idle => Some(300),
             Name::Most => Some(10_000_000),
+            Name::Tolerate => None,
         }
     }
 }

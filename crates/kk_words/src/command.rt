@@ -47,11 +47,12 @@ const RELAY: [Argument; 7] = [
 ];
 
 /// A receiver listens at one address or more.
-const RECV: [Argument; 4] = [
+const RECV: [Argument; 5] = [
     Argument::Word(Word::Ticket),
     Argument::Words(Word::Listen),
     Argument::Number(Name::Idle),
     Argument::Number(Name::Most),
+    Argument::Number(Name::Tolerate),
 ];
 
 impl Command {

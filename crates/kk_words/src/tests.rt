@@ -109,7 +109,14 @@ fn told_whole(alloc: Global, line: &str) -> Result<String, Fail> {
         Err(fault) => return Ok(format!(in alloc; "{fault:?}")?),
     };
     let mut text = format!(in alloc; "{:?}", asked.command())?;
-    for name in [Name::Extra, Name::Pack, Name::Rate, Name::Idle, Name::Most] {
+    for name in [
+        Name::Extra,
+        Name::Pack,
+        Name::Rate,
+        Name::Idle,
+        Name::Most,
+        Name::Tolerate,
+    ] {
         match asked.number(name) {
             Some(number) => text.push_str(format!(in alloc; " {number}")?.as_str())?,
             None => text.push_str(" -")?,
@@ -139,18 +146,18 @@ fn send(rt: HostRuntime) -> Result<(), Fail> {
         &rt,
         rt.alloc(),
         &[
-            ("send T A --seed 00", "Send 0 32 - - - 00 T A"),
-            ("send --seed=00 T A", "Send 0 32 - - - 00 T A"),
+            ("send T A --seed 00", "Send 0 32 - - - - 00 T A"),
+            ("send --seed=00 T A", "Send 0 32 - - - - 00 T A"),
             (
                 "send T --pack 1 A --extra=5 --seed 00",
-                "Send 5 1 - - - 00 T A",
+                "Send 5 1 - - - - 00 T A",
             ),
-            ("send T A --seed 00 --extra +5", "Send 5 32 - - - 00 T A"),
+            ("send T A --seed 00 --extra +5", "Send 5 32 - - - - 00 T A"),
             ("send T A --seed 00 --extra -5", "Words"),
             ("send T A --seed 00 --extra=-5", "Words"),
             // A seed is any text that is no option of its own, and is given once.
-            ("send T A --seed ", "Send 0 32 - - -  T A"),
-            ("send T A --seed=-1", "Send 0 32 - - - -1 T A"),
+            ("send T A --seed ", "Send 0 32 - - - -  T A"),
+            ("send T A --seed=-1", "Send 0 32 - - - - -1 T A"),
             ("send T A --seed -1", "Words"),
             ("send T A --seed", "Words"),
             ("send T A", "Words"),
@@ -160,9 +167,9 @@ fn send(rt: HostRuntime) -> Result<(), Fail> {
             ("send T A --seed 00 --most 5", "Words"),
             (
                 "send --seed 00 -- T --extra",
-                "Send 0 32 - - - 00 T --extra",
+                "Send 0 32 - - - - 00 T --extra",
             ),
-            ("send help A --seed 00", "Send 0 32 - - - 00 help A"),
+            ("send help A --seed 00", "Send 0 32 - - - - 00 help A"),
             ("send --help", "Words"),
         ],
     )
@@ -174,10 +181,13 @@ fn relay(rt: HostRuntime) -> Result<(), Fail> {
         &rt,
         rt.alloc(),
         &[
-            ("relay T A B --seed 00", "Relay - - 1 300 10000000 00 T A B"),
+            (
+                "relay T A B --seed 00",
+                "Relay - - 1 300 10000000 - 00 T A B",
+            ),
             (
                 "relay --rate 0 T --idle=7 A --most 5 B --seed 00",
-                "Relay - - 0 7 5 00 T A B",
+                "Relay - - 0 7 5 - 00 T A B",
             ),
             // A relay listens at one address.
             ("relay T A --seed 00", "Words"),
@@ -186,7 +196,7 @@ fn relay(rt: HostRuntime) -> Result<(), Fail> {
             ("relay T A B --seed 00 --extra 1", "Words"),
             (
                 "relay --seed 00 T -- A --rate",
-                "Relay - - 1 300 10000000 00 T A --rate",
+                "Relay - - 1 300 10000000 - 00 T A --rate",
             ),
         ],
     )
@@ -198,24 +208,44 @@ fn recv(rt: HostRuntime) -> Result<(), Fail> {
         &rt,
         rt.alloc(),
         &[
-            ("recv T A", "Recv - - - 300 10000000 - T A"),
-            ("recv T A B C", "Recv - - - 300 10000000 - T A B C"),
+            ("recv T A", "Recv - - - 300 10000000 - - T A"),
+            ("recv T A B C", "Recv - - - 300 10000000 - - T A B C"),
             // An option may part the addresses.
-            ("recv T A --idle 3 B", "Recv - - - 3 10000000 - T A B"),
-            ("recv --most=5 T A B --idle 3 C", "Recv - - - 3 5 - T A B C"),
+            ("recv T A --idle 3 B", "Recv - - - 3 10000000 - - T A B"),
+            (
+                "recv --most=5 T A B --idle 3 C",
+                "Recv - - - 3 5 - - T A B C",
+            ),
             (
                 "recv T A --idle 3 -- B --most",
-                "Recv - - - 3 10000000 - T A B --most",
+                "Recv - - - 3 10000000 - - T A B --most",
             ),
-            ("recv -- T A", "Recv - - - 300 10000000 - T A"),
-            ("recv T  A ", "Recv - - - 300 10000000 - T  A "),
+            ("recv -- T A", "Recv - - - 300 10000000 - - T A"),
+            ("recv T  A ", "Recv - - - 300 10000000 - - T  A "),
             ("recv T", "Words"),
             ("recv T --idle 3", "Words"),
             ("recv", "Words"),
             ("recv T A --idle 3 --idle 3", "Words"),
             ("recv T A --seed 00", "Words"),
             ("recv T A -h", "Words"),
-            ("recv T help", "Recv - - - 300 10000000 - T help"),
+            ("recv T help", "Recv - - - 300 10000000 - - T help"),
+            // A number of tolerated dimensions has no default.
+            ("recv T A --tolerate 1", "Recv - - - 300 10000000 1 - T A"),
+            (
+                "recv --tolerate=+05 T A --most 5 B",
+                "Recv - - - 300 5 5 - T A B",
+            ),
+            (
+                "recv T A --tolerate 18446744073709551615",
+                "Recv - - - 300 10000000 18446744073709551615 - T A",
+            ),
+            ("recv T A --tolerate 18446744073709551616", "Words"),
+            ("recv T A --tolerate", "Words"),
+            ("recv T A --tolerate=", "Words"),
+            ("recv T A --tolerate -1", "Words"),
+            ("recv T A --tolerate 1 --tolerate 1", "Words"),
+            ("unpack T --tolerate 1", "Words"),
+            ("relay T A B --seed 00 --tolerate 1", "Words"),
         ],
     )
 }

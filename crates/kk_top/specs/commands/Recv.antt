@@ -1,5 +1,5 @@
 -- `recv`: all gates are received from at once, and the file goes out.
-use Rattle.std.specs.Prelude.{◌≡◌, ◌↔◌, ◌⊎◌, ℕ, ◌+◌, nat_lt, ◌||◌, if◌then◌else◌, List, length, slice_get, Option, Some, None}
+use Rattle.std.specs.Prelude.{◌≡◌, ◌↔◌, ◌⊎◌, ℕ, ◌+◌, ◌*◌, nat_lt, ◌||◌, Bool, false, if◌then◌else◌, List, length, slice_get, Option, Some, None, option_map}
 use Rattle.kk_outside.specs.Change.{Change}
 use Rattle.kk_outside.specs.Gate.{GateTold}
 use Rattle.kk_outside.specs.Sink.{SinkTold}
@@ -9,9 +9,10 @@ use Rattle.kk_code.specs.declared.fault.TicketFault.{TicketFault}
 use Rattle.kk_frame.specs.declared.limits.Limits.{Limits}
 use Rattle.kk_table.specs.Logs.{LogsView}
 use Rattle.kk_words.specs.declared.command.Command.TheVariants.{Recv}
-use Rattle.kk_words.specs.declared.argument.Name.TheVariants.{Idle, Most}
+use Rattle.kk_words.specs.declared.argument.Name.TheVariants.{Idle, Most, Tolerate}
 use Rattle.kk_words.specs.Request.{Request, number_of}
 use Rattle.kk_workers.specs.declared.running.TheConstants.{MAX_GATES}
+use Rattle.kk_workers.specs.declared.plan.Plan.{Plan}
 use Rattle.kk_top.specs.declared.refusal.Refusal.{Refusal}
 use Rattle.kk_top.specs.declared.refusal.Refusal.TheVariants.{Words, Ticket, Seed, Range, Listen, Input, Length, Outlet, Memory}
 use Rattle.kk_top.specs.declared.words.TheConstants.{MAX_MOST, MAX_IDLE}
@@ -23,11 +24,13 @@ use Rattle.kk_top.specs.Words.{IsRequestFor, AsksNothingOf}
 
 -- ---- the words
 
--- what is asked for: a ticket, how many addresses to listen at, and when a gate is given up
+-- What is asked for: a ticket, how many addresses to listen at, when a gate is given up, and perhaps how many injected
+-- dimensions of each generation are tolerated.
 pub record Order : Type 0 where
   pub ticket : TicketFields
   pub addresses : ℕ
   pub limits : Limits
+  pub tolerated : Option ℕ
 
 -- The words ask to receive by this order.
 pub record AsksToReceive (words : List (List ℕ)) (order : Order) : Type 0 where
@@ -39,13 +42,29 @@ pub record AsksToReceive (words : List (List ℕ)) (order : Order) : Type 0 wher
   pub addresses : length request.texts ≡ order.addresses + 1
   pub idle : number_of request.numbers Idle ≡ Some order.limits.idle
   pub most : number_of request.numbers Most ≡ Some order.limits.most
+  pub tolerated : number_of request.numbers Tolerate ≡ order.tolerated
 
--- the first range of an order that is broken: numbers of quiets and of datagrams within theirs, and at most 16 addresses
+-- the rank k + 2 tolerated is above l, the dimension of a codeword
+abbrev pub is_beyond : TicketFields → Option ℕ → Bool
+is_beyond t None = false
+is_beyond t (Some n) = nat_lt t.code.l (t.code.k + 2 * n)
+
+-- the rank at which a generation is closed: with a number of tolerated dimensions k + 2 tolerated, and else none
+abbrev pub goal_of : TicketFields → Option ℕ → Option ℕ
+goal_of t tolerated = option_map (λ n. t.code.k + 2 * n) tolerated
+
+-- what a receiver is to do by an order
+abbrev pub plan_of : Order → Plan
+plan_of order = record { limits = order.limits; goal = goal_of order.ticket order.tolerated }
+
+-- The first range of an order that is broken: numbers of quiets and of datagrams within theirs, k + 2 tolerated at most l, and
+-- at most 16 addresses.
 abbrev pub broken_range : Order → Option Refusal
 broken_range order =
     if nat_lt order.limits.idle 1 || nat_lt MAX_IDLE order.limits.idle then Some (Range Idle)
     else (if nat_lt order.limits.most 1 || nat_lt MAX_MOST order.limits.most then Some (Range Most)
-    else (if nat_lt MAX_GATES order.addresses then Some Listen else None))
+    else (if is_beyond order.ticket order.tolerated then Some (Range Tolerate)
+    else (if nat_lt MAX_GATES order.addresses then Some Listen else None)))
 
 -- The words ask to receive by this order, whose ranges are kept.
 pub record OrdersReceiving (words : List (List ℕ)) (order : Order) : Type 0 where
@@ -86,4 +105,4 @@ pub record Receives (words : List (List ℕ)) (gates : List (Change GateTold)) (
   -- A refusal writes its cause.
   pub refused : EndedAtOnce status → (cause : Refusal) × IsRefusedFor words cause × IsRefused cause status report
   -- Else file, report, status and logs are those of a receiver under the ticket.
-  pub received : (order : Order) → OrdersReceiving words order → (EndedAtOnce status → ⊥) → IsReceiver order.ticket order.limits gates file report logs status
+  pub received : (order : Order) → OrdersReceiving words order → (EndedAtOnce status → ⊥) → IsReceiver order.ticket (plan_of order) gates file report logs status

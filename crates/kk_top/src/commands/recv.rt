@@ -1,10 +1,10 @@
 //! `recv`: all gates are received from at once, and the file goes out.
-ghost use Rattle.std.specs.Prelude.{◌≡◌, ◌≤◌, ℕ, [], Some, length, IfOk, IfErr};
+ghost use Rattle.std.specs.Prelude.{◌≡◌, ◌≤◌, [], Some, length, true, false, IfOk, IfErr};
 ghost use Rattle.kk_outside.specs.Change.{change};
 ghost use Rattle.kk_workers.specs.Headline.{changes};
 ghost use Rattle.kk_top.specs.Command.{texts, EndedAtOnce, MayTouchFile};
 ghost use Rattle.kk_top.specs.Receiver.{received};
-ghost use Rattle.kk_top.specs.commands.Recv.{Order, OrdersReceiving, IsRefusedFor, Receives};
+ghost use Rattle.kk_top.specs.commands.Recv.{Order, OrdersReceiving, IsRefusedFor, Receives, is_beyond, goal_of, plan_of};
 
 use crate::receiver::receive_under;
 use crate::refusal::Refusal;
@@ -15,16 +15,16 @@ use kk_frame::Limits;
 use kk_outside::{Gate, Sink};
 use kk_table::Logs;
 use kk_words::{Command, Name};
-use kk_workers::MAX_GATES;
+use kk_workers::{MAX_GATES, Plan};
 use std::alloc::Global;
 use std::thread::Threads;
 
 /// Receives from all gates, each with a worker in a thread of its own, decodes each generation, writes the file, and reports
 /// what became of gates and generations.
 ///
-/// `words` are `recv`, the ticket, the addresses of the gates, and `--idle N` and `--most N` where the limits of a gate are
-/// given. The answer is the status, which the report tells too. All memory is taken before the first call on a gate or a
-/// sink. `logs` is empty before, and holds the logs of this run after 0, 3, 5 and 6.
+/// `words` are `recv`, the ticket, the addresses of the gates, `--idle N` and `--most N` where the limits of a gate are given,
+/// and `--tolerate N` where each generation is to be closed at rank k + 2·N, since at most N dimensions are injected into it.
+/// The answer is the status, which the report tells too. All memory is taken before the first call on a gate or a sink. `logs` is empty before, and holds the logs of this run after 0, 3, 5 and 6.
 pub fn run_recv<R: Threads + Sync, K: Sink, P: Sink, G: Gate + Send>(
     rt: &R,
     alloc: Global,
@@ -47,20 +47,20 @@ pub fn run_recv<R: Threads + Sync, K: Sink, P: Sink, G: Gate + Send>(
     ensures no_bytes { (order : Order) → OrdersReceiving (texts words.now) order → (EndedAtOnce result → ⊥)
         → received order.ticket order.limits (changes G.told gates.old.items gates.new.items) ≡ Some [] → file.new ≡ file.old }
 {
-    let (ticket, limits) = match receiver_named(alloc, words) {
+    let (ticket, plan) = match receiver_named(alloc, words) {
         Ok(named) => named,
         Err(refusal) => return refuse(refusal, report),
     };
-    match receive_under(rt, alloc, &ticket, limits, file, report, gates, logs) {
+    match receive_under(rt, alloc, &ticket, &plan, file, report, gates, logs) {
         Ok(status) => status,
         Err(_) => refuse(Refusal::Memory, report),
     }
 }
 
-/// The ticket, and when a gate is given up: the ticket is looked at first, and then the ranges of `--idle`, of `--most` and of
-/// the number of addresses.
-fn receiver_named(alloc: Global, words: &[String]) -> Result<(Ticket, Limits), Refusal>
-    ensures named { IfOk result (λ named. (addresses : ℕ) × OrdersReceiving (texts words.now) (record { ticket = named.0; addresses = addresses; limits = named.1 })) }
+/// The ticket, and what the receiver is to do: the ticket is looked at first, and then the ranges of `--idle`, of `--most`, of
+/// `--tolerate` and of the number of addresses.
+fn receiver_named(alloc: Global, words: &[String]) -> Result<(Ticket, Plan), Refusal>
+    ensures named { IfOk result (λ named. (order : Order) × OrdersReceiving (texts words.now) order × (order.ticket ≡ named.0) × (plan_of order ≡ named.1)) }
     ensures refused { IfErr result (IsRefusedFor (texts words.now)) }
 {
     let asked = asked_of(alloc, words, Command::Recv)?;
@@ -76,6 +76,7 @@ fn receiver_named(alloc: Global, words: &[String]) -> Result<(Ticket, Limits), R
     if most < 1 || most > MAX_MOST {
         return Err(Refusal::Range(Name::Most));
     }
+    let goal = goal_in(&ticket, asked.number(Name::Tolerate))?;
     if asked.texts() > MAX_GATES + 1 {
         return Err(Refusal::Listen);
     }
@@ -83,5 +84,23 @@ fn receiver_named(alloc: Global, words: &[String]) -> Result<(Ticket, Limits), R
         idle: idle as u32,
         most: most as u32,
     };
-    Ok((ticket, limits))
+    Ok((ticket, Plan { limits, goal }))
+}
+
+/// The rank at which a generation is closed, where so many injected dimensions are tolerated. It is at most l.
+fn goal_in(ticket: &Ticket, tolerated: Option<u64>) -> Result<Option<u32>, Refusal>
+    ensures kept { IfOk result (λ _. is_beyond ticket.now tolerated ≡ false) }
+    ensures goal { IfOk result (λ goal. goal ≡ goal_of ticket.now tolerated) }
+    ensures beyond { IfErr result (λ refusal. (refusal ≡ Refusal.Range Name.Tolerate) × (is_beyond ticket.now tolerated ≡ true)) }
+{
+    let Some(number) = tolerated else {
+        return Ok(None);
+    };
+    let code = ticket.code();
+    let k = u64::from(code.k());
+    let l = u64::from(code.l());
+    if number > l || k + 2 * number > l {
+        return Err(Refusal::Range(Name::Tolerate));
+    }
+    Ok(Some((k + 2 * number) as u32))
 }

@@ -269,7 +269,7 @@ fn words_that_are_refused(rt: HostRuntime) -> Result<(), Fail> {
     let cases: &[(&[&str], u8, &str)] = &[
         (&["recv", ONE_BYTE], 1, "words\nstatus 1\n"),
         (
-            &["recv", ONE_BYTE, at, "--tolerate", "0"],
+            &["recv", ONE_BYTE, at, "--tolerate", "-1"],
             1,
             "words\nstatus 1\n",
         ),
@@ -292,6 +292,23 @@ fn words_that_are_refused(rt: HostRuntime) -> Result<(), Fail> {
             &["recv", ONE_BYTE, at, "--most", "100000001"],
             11,
             "range most\nstatus 11\n",
+        ),
+        (
+            &["recv", ONE_BYTE, at, "--tolerate", "2", "--most", "0"],
+            11,
+            "range most\nstatus 11\n",
+        ),
+        // With l = 3 and k = 1 at most one dimension is tolerated.
+        (
+            &["recv", "--tolerate", "2", ONE_BYTE, at],
+            11,
+            "range tolerate\nstatus 11\n",
+        ),
+        // Twice this number is 0 modulo 2^64.
+        (
+            &["recv", ONE_BYTE, at, "--tolerate", "9223372036854775808"],
+            11,
+            "range tolerate\nstatus 11\n",
         ),
     ];
     for (words, status, report) in cases {
@@ -325,6 +342,107 @@ fn sixteen_addresses_and_seventeen(rt: HostRuntime) -> Result<(), Fail> {
         outcome.report.bytes(),
         b"range listen\nstatus 11\n".as_slice()
     );
+    let beyond = &[
+        "recv",
+        "--tolerate",
+        "2",
+        ONE_BYTE,
+        at,
+        at,
+        at,
+        at,
+        at,
+        at,
+        at,
+        at,
+        at,
+        at,
+        at,
+        at,
+        at,
+        at,
+        at,
+        at,
+        at,
+    ];
+    let mut gates: Vec<MemoryGate> = Vec::new(alloc);
+    let outcome = run_over(&rt, alloc, beyond, &mut gates, &[])?;
+    assert_eq!(rt;
+        outcome.report.bytes(),
+        b"range tolerate\nstatus 11\n".as_slice()
+    );
+    Ok(())
+}
+
+/// The words of a receiver that tolerates one injected dimension.
+const TOLERANT: &[&str] = &["recv", "--tolerate", "1", ONE_BYTE, "127.0.0.1:9000"];
+
+/// A datagram with one row of generation 0.
+fn one(alloc: Global, row: u8) -> Result<Event, AllocError>
+    ensures { IfOk result FitsGate }
+{
+    Ok(Event::Datagram(Bytes::new(frame(0, 0, row).to_vec(alloc)?)))
+}
+
+/// One gate with these rows of generation 0, one a datagram, and then the other generations.
+fn gate_of(alloc: Global, rows: [u8; 4]) -> Result<Vec<MemoryGate>, AllocError>
+    ensures { IfOk result (λ gates. length gates.items ≡ 1) }
+{
+    let [a, b, c, d] = rows;
+    let events = Vec::from_array(
+        alloc,
+        [
+            one(alloc, a)?,
+            one(alloc, b)?,
+            one(alloc, c)?,
+            one(alloc, d)?,
+            three(alloc, 1, ZERO)?,
+            three(alloc, 2, ZERO)?,
+        ],
+    )?;
+    Ok(Vec::from_array(alloc, [MemoryGate::new(events)])?)
+}
+
+/// The injected row comes first or last: the generation is closed at rank 3, and the fourth row is late.
+#[test]
+fn one_injected_row_is_tolerated(rt: HostRuntime) -> Result<(), Fail> {
+    let alloc = rt.alloc();
+    let report = joined(
+        alloc,
+        &[
+            "generations 3\ngate 0 over datagrams 6 frames 10",
+            NONE_REFUSED,
+            "generation 0 rank 3 decoded\ngeneration 1 rank 3 decoded\n",
+            "generation 2 rank 3 decoded\n",
+            "inserts 10 innovative 9 redundant 0 late 1\nstatus 0\n",
+        ],
+    )?;
+    for rows in [[13, 17, 34, 1], [1, 13, 17, 34]] {
+        let mut gates = gate_of(alloc, rows)?;
+        let outcome = run_over(&rt, alloc, TOLERANT, &mut gates, &[])?;
+        assert_eq!(rt; outcome.status, 0);
+        assert_eq!(rt; outcome.file.bytes(), [0xa0].as_slice());
+        assert_eq!(rt; outcome.report.bytes(), report.as_bytes());
+    }
+    Ok(())
+}
+
+/// The rows of generation 0 are dealt over two gates, so that its rank is 3 or 4: the file is the same.
+#[test]
+fn one_injected_row_at_two_gates(rt: HostRuntime) -> Result<(), Fail> {
+    let alloc = rt.alloc();
+    let first = Vec::from_array(
+        alloc,
+        [one(alloc, 13)?, one(alloc, 1)?, three(alloc, 1, ZERO)?],
+    )?;
+    let second = Vec::from_array(
+        alloc,
+        [one(alloc, 17)?, one(alloc, 34)?, three(alloc, 2, ZERO)?],
+    )?;
+    let mut gates = Vec::from_array(alloc, [MemoryGate::new(first), MemoryGate::new(second)])?;
+    let outcome = run_over(&rt, alloc, TOLERANT, &mut gates, &[])?;
+    assert_eq!(rt; outcome.status, 0);
+    assert_eq!(rt; outcome.file.bytes(), [0xa0].as_slice());
     Ok(())
 }
 

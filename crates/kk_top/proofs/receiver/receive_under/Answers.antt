@@ -7,7 +7,7 @@ use Rattle.kk_top.specs.Answers.{file_of}
 use Rattle.kk_top.specs.Delivery.{IsDelivered}
 use Rattle.kk_top.specs.Report.{receiver_report, logged_outcomes}
 use Rattle.kk_top.specs.Status.{code_of}
-use Rattle.kk_top.proofs.Receivers.{file_is, is_receiver}
+use Rattle.kk_top.proofs.Receivers.{empty_file, is_receiver}
 use Rattle.kk_top.proofs.receiver.receive_under.Goals as goal
 
 pub returns-clause-receiver : goal.returns-clause-receiver
@@ -18,7 +18,7 @@ returns-clause-receiver g c =
     let file = change (g.K.Sink.told c.args.file.now) (g.K.Sink.told c.deliver-delivered.new.file) in
     let report = change (g.P.Sink.told c.args.report.now) (g.P.Sink.told c.tell_received-code.new.report) in
     let told = code_of c.status_after-status.result in
-    is_receiver t c.args.limits gates r c.in_ok-received.ensures.headline c.in_ok-received.ensures.add_up (code_of c.deliver-delivered.result) told c.tell_received-code.result file report
+    is_receiver t c.args.plan.now gates r c.in_ok-received.ensures.headline c.in_ok-received.ensures.add_up c.generations.ensures.ticket (code_of c.deliver-delivered.result) told c.tell_received-code.result file report
     (subst (λ (a : List (Option (List ℕ))). IsDelivered (file_of t a) (code_of c.deliver-delivered.result) file) c.answers.ensures c.deliver-delivered.ensures.delivered)
     c.status_after-status.ensures c.tell_received-code.ensures.same_or_five c.tell_received-code.ensures.five
     (subst (λ (k : ℕ). WasGiven (receiver_report told r.gates (logged_outcomes k r.logs.logs r.answers) r.totals) report) c.generations.ensures.count c.tell_received-code.ensures.given)
@@ -28,7 +28,6 @@ returns-clause-receiver g c =
 pub returns-clause-no_bytes : goal.returns-clause-no_bytes
 returns-clause-no_bytes g c = λ none.
     let t = c.args.ticket.now in
-    let gates = changes g.G.Gate.told c.args.gates.now.items c.receive.new.gates.items in
     let r = c.in_ok-received.received in
     c.deliver-delivered.ensures.no_bytes
-    (ap (file_of t) c.answers.ensures ∙ sym (file_is t c.args.limits gates r c.in_ok-received.ensures.headline c.in_ok-received.ensures.add_up) ∙ none)
+    (ap (file_of t) c.answers.ensures ∙ empty_file t r.answers c.generations.ensures.ticket c.in_ok-received.ensures.one_answer_each none)
