@@ -1,7 +1,7 @@
 //! `pack` over sources and sinks in memory.
-use super::{ONE_BYTE, capture, texts};
+use super::{FIVE_AND_ZEROS, ONE_BYTE, capture, texts};
 use crate::run_pack;
-use kk_outside::{MemorySink, MemorySource};
+use kk_outside::{Alloc, MemorySink, MemorySource};
 use std::alloc::Global;
 use std::process::Abort;
 use std::test::Fail;
@@ -25,7 +25,33 @@ const A0: Setting<'static> = Setting {
     report_fails: &[],
 };
 
-/// Runs `pack` in a setting, and compares its status, its report and how many bytes its file's sink took.
+/// The status of a run, and its two sinks.
+#[derive(Drop)]
+struct Outcome {
+    status: u8,
+    file: MemorySink,
+    report: MemorySink,
+}
+
+fn source_of(alloc: Global, setting: &Setting) -> Result<MemorySource, Alloc> {
+    let fails = setting.source_fails.to_vec(alloc)?;
+    Ok(MemorySource::new(setting.bytes.to_vec(alloc)?, 1, fails))
+}
+
+fn outcome_of(alloc: Global, setting: &Setting) -> Result<Outcome, Alloc> {
+    let words = texts(alloc, setting.words)?;
+    let mut source = source_of(alloc, setting)?;
+    let mut file = MemorySink::new(alloc, 1000, 150, setting.file_fails.to_vec(alloc)?)?;
+    let mut report = MemorySink::new(alloc, 1000, 100, setting.report_fails.to_vec(alloc)?)?;
+    let status = run_pack(alloc, &words, &mut source, &mut file, &mut report);
+    Ok(Outcome {
+        status,
+        file,
+        report,
+    })
+}
+
+/// Runs `pack` in a setting, and compares its status, its report and how many bytes of the capture its file's sink took.
 fn expect(
     rt: &impl Abort,
     alloc: Global,
@@ -33,57 +59,67 @@ fn expect(
     status: u8,
     report: &str,
     len: usize,
-) -> Result<(), Fail> {
-    let words = texts(alloc, setting.words)?;
-    let bytes = setting.bytes.to_vec(alloc)?;
-    let mut source = MemorySource::new(bytes, 1, setting.source_fails.to_vec(alloc)?);
-    let mut file = MemorySink::new(alloc, 1000, 150, setting.file_fails.to_vec(alloc)?)?;
-    let mut told = MemorySink::new(alloc, 1000, 100, setting.report_fails.to_vec(alloc)?)?;
-    assert_eq!(rt;
-        run_pack(alloc, &words, &mut source, &mut file, &mut told),
-        status
-    );
-    assert_eq!(rt; told.bytes(), report.as_bytes());
-    let whole = capture(alloc, &[[13, 17, 34], [8, 16, 32], [8, 16, 32]])?;
-    assert_eq!(rt; file.bytes().len(), len);
-    assert_eq!(rt; whole.starts_with(file.bytes()), true);
+) -> Result<(), Alloc> {
+    let whole = capture(alloc, FIVE_AND_ZEROS)?;
+    let outcome = outcome_of(alloc, setting)?;
+    assert_eq!(rt; outcome.status, status);
+    assert_eq!(rt; outcome.report.bytes(), report.as_bytes());
+    assert_eq!(rt; outcome.file.bytes().len(), len);
+    assert!(rt; whole.starts_with(outcome.file.bytes()));
     Ok(())
 }
 
 #[test]
 fn the_capture_of_one_byte(rt: HostRuntime) -> Result<(), Fail> {
-    expect(&rt, rt.alloc(), &A0, 0, "frames 10\nstatus 0\n", 200)
+    expect(&rt, rt.alloc(), &A0, 0, "frames 10\nstatus 0\n", 200)?;
+    Ok(())
 }
+
+/// Words and files, and the status and the report by which they are refused.
+const REFUSED: &[(&[&str], &[u8], u8, &str)] = &[
+    (&["pack", ONE_BYTE], &[], 9, "length 0\nstatus 9\n"),
+    (
+        &["pack", ONE_BYTE],
+        &[0xa0, 0xa0],
+        9,
+        "length more\nstatus 9\n",
+    ),
+    (
+        &["pack", ONE_BYTE],
+        &[0xa0, 0xa0, 0xa0],
+        9,
+        "length more\nstatus 9\n",
+    ),
+    (&["pack"], &[0xa0], 1, "words\nstatus 1\n"),
+    (&["pack", ONE_BYTE, "x"], &[0xa0], 1, "words\nstatus 1\n"),
+    (&["unpack", ONE_BYTE], &[0xa0], 1, "words\nstatus 1\n"),
+    (&["pack", ""], &[0xa0], 2, "ticket shape 0\nstatus 2\n"),
+];
 
 #[test]
 fn files_and_words_that_are_refused(rt: HostRuntime) -> Result<(), Fail> {
-    for (words, bytes, status, report) in [
-        (A0.words, &[] as &[u8], 9, "length 0\nstatus 9\n"),
-        (A0.words, &[0xa0, 0xa0], 9, "length more\nstatus 9\n"),
-        (A0.words, &[0xa0, 0xa0, 0xa0], 9, "length more\nstatus 9\n"),
-        (&["pack"], A0.bytes, 1, "words\nstatus 1\n"),
-        (&["pack", ONE_BYTE, "x"], A0.bytes, 1, "words\nstatus 1\n"),
-        (&["unpack", ONE_BYTE], A0.bytes, 1, "words\nstatus 1\n"),
-        (&["pack", ""], A0.bytes, 2, "ticket shape 0\nstatus 2\n"),
-    ] {
+    for (words, bytes, status, report) in REFUSED {
         let setting = Setting { words, bytes, ..A0 };
-        expect(&rt, rt.alloc(), &setting, status, report, 0)?;
+        expect(&rt, rt.alloc(), &setting, *status, report, 0)?;
+    }
+    Ok(())
+}
+
+/// The first read and the one that looks for the end.
+#[test]
+fn reads_that_fail(rt: HostRuntime) -> Result<(), Fail> {
+    for read in 0..2 {
+        let setting = Setting {
+            source_fails: &[read],
+            ..A0
+        };
+        expect(&rt, rt.alloc(), &setting, 4, "input fault\nstatus 4\n", 0)?;
     }
     Ok(())
 }
 
 #[test]
-fn calls_that_fail(rt: HostRuntime) -> Result<(), Fail> {
-    let input = Setting {
-        source_fails: &[0],
-        ..A0
-    };
-    expect(&rt, rt.alloc(), &input, 4, "input fault\nstatus 4\n", 0)?;
-    let end = Setting {
-        source_fails: &[1],
-        ..A0
-    };
-    expect(&rt, rt.alloc(), &end, 4, "input fault\nstatus 4\n", 0)?;
+fn writes_that_fail(rt: HostRuntime) -> Result<(), Fail> {
     let file = Setting {
         file_fails: &[1],
         ..A0
@@ -93,5 +129,6 @@ fn calls_that_fail(rt: HostRuntime) -> Result<(), Fail> {
         report_fails: &[0],
         ..A0
     };
-    expect(&rt, rt.alloc(), &report, 5, "", 200)
+    expect(&rt, rt.alloc(), &report, 5, "", 200)?;
+    Ok(())
 }
