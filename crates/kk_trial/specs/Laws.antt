@@ -1,0 +1,112 @@
+-- What is true of all trials, which the functions of `laws` prove.
+use Rattle.std.specs.Prelude.{◌≡◌, ℕ, ◌+◌, ◌-◌, ◌*◌, ◌<◌, ◌≤◌, Some, List, [], length, All, flat_map, slice_index_or}
+use Rattle.std.specs.List.Sorted.{IsPermutation}
+use Rattle.kk_rows.specs.Span.{dimension, HaveSameSpan}
+use Rattle.kk_rows.specs.declared.row_space.TheConstants.{MAX_WIDTH}
+use Rattle.kk_code.specs.Decoding.{answer}
+use Rattle.kk_code.specs.Ticket.{TicketFields, generations}
+use Rattle.kk_code.specs.TicketText.{IsTicket}
+use Rattle.kk_code.specs.declared.ticket.TheConstants.{MAX_GENERATIONS}
+use Rattle.kk_assemble.specs.FileBits.{cut}
+use Rattle.kk_outside.specs.GateState.{GateState}
+use Rattle.kk_frame.specs.declared.frame.TheConstants.{FRAME_BYTES}
+use Rattle.kk_frame.specs.declared.limits.Limits.{Limits}
+use Rattle.kk_frame.specs.declared.gate_count.Ended.TheVariants.{Over}
+use Rattle.kk_frame.specs.declared.gate_count.GateCount.{GateCount}
+use Rattle.kk_frame.specs.Events.{stop, taken, counts, refused_of}
+use Rattle.kk_frame.specs.Frame.{Vector, IsFrame}
+use Rattle.kk_frame.specs.Generation.{rows_of}
+use Rattle.kk_channel.specs.Laws.{HasLoss}
+use Rattle.kk_trial.specs.declared.loss.Loss.{Loss}
+use Rattle.kk_trial.specs.Trial.{made_file, received_rows, trial_frames, dealt, all_dealt, trial_events, trial_gates}
+
+-- The code has as many dimensions as are erased, and as many as are injected.
+pub record IsPossible (t : TicketFields) (loss : Loss) : Type 0 where
+  pub erase : loss.erase ≤ t.code.l
+  pub inject : loss.inject ≤ t.code.field.degree
+
+-- ---- the file
+
+-- The made file has as many bytes as were asked for.
+abbrev pub MadeFileHasItsLength : Type 0
+MadeFileHasItsLength =
+    (len : ℕ) (word : ℕ → ℕ) → (length (made_file len word) ≡ len) × All (λ b. b < 256) (made_file len word)
+
+-- ---- the rows of a generation
+
+-- The rows of a generation have exactly the loss, and are independent: so many they are, and such is the dimension of all rows
+-- of their span.
+pub record HaveTheLoss (t : TicketFields) (loss : Loss) (u rows : List ℕ) : Type 0 where
+  pub lost : HasLoss t.code u rows loss.erase loss.inject
+  pub count : length rows ≡ t.code.l - loss.erase + loss.inject
+  pub rank : (others : List ℕ) → HaveSameSpan others rows → dimension others ≡ t.code.l - loss.erase + loss.inject
+
+abbrev pub ReceivedRowsHaveTheLoss : Type 0
+ReceivedRowsHaveTheLoss =
+    (t : TicketFields) (loss : Loss) (word : ℕ → ℕ) (g : ℕ) → IsTicket t → IsPossible t loss →
+    HaveTheLoss t loss (cut t.code (made_file t.length word) g) (received_rows t loss word g)
+
+-- Where no more dimensions are erased and injected than the radius l - k, the rows of a generation, and all rows of their span,
+-- decode to the message of the file.
+abbrev pub AnswerIsTheMessage : Type 0
+AnswerIsTheMessage =
+    (t : TicketFields) (loss : Loss) (word : ℕ → ℕ) (g : ℕ) (rows : List ℕ) → IsTicket t → IsPossible t loss →
+    loss.erase + loss.inject ≤ t.code.l - t.code.k → HaveSameSpan rows (received_rows t loss word g) →
+    answer t.code rows ≡ Some (cut t.code (made_file t.length word) g)
+
+-- ---- the frames of all generations
+
+-- Each generation has as many frames, and each is a frame of the ticket.
+pub record AreFrames (t : TicketFields) (loss : Loss) (frames : List (ℕ × ℕ)) : Type 0 where
+  pub count : length frames ≡ generations t * (t.code.l - loss.erase + loss.inject)
+  pub few : length frames ≤ MAX_GENERATIONS * MAX_WIDTH
+  pub in_range : All (λ f. IsFrame t (Vector f.0 f.1)) frames
+
+abbrev pub TrialFramesAreFrames : Type 0
+TrialFramesAreFrames =
+    (t : TicketFields) (loss : Loss) (word : ℕ → ℕ) → IsTicket t → IsPossible t loss →
+    AreFrames t loss (trial_frames t loss word)
+
+-- ---- the gates
+
+-- All gates together have the frames that were dealt, in another order, and none has more than all.
+abbrev pub DealingIsAPermutation : Type 0
+DealingIsAPermutation =
+    (n : ℕ) (frames : List (ℕ × ℕ)) → 0 < n →
+    IsPermutation frames (all_dealt n frames) × ((i : ℕ) → length (dealt n i frames) ≤ length frames)
+
+-- the same rows in another order, which have the same span
+pub record AreReordered (rows others : List ℕ) : Type 0 where
+  pub permuted : IsPermutation rows others
+  pub count : length others ≡ length rows
+  pub spans : HaveSameSpan others rows
+
+-- Over however many gates the frames are dealt, the rows of each generation are those that came out of the channel.
+abbrev pub DealingKeepsRows : Type 0
+DealingKeepsRows =
+    (t : TicketFields) (loss : Loss) (word : ℕ → ℕ) (n g : ℕ) → 0 < n → g < generations t →
+    AreReordered (received_rows t loss word g) (rows_of g (all_dealt n (trial_frames t loss word)))
+
+-- A gate with these events gives them all, and each is taken as one of these frames. Nothing is refused, and it ends by Over.
+pub record GivesAll (t : TicketFields) (limits : Limits) (gate : GateState) (frames : List (ℕ × ℕ)) : Type 0 where
+  pub stops : stop FRAME_BYTES t limits gate.left ≡ gate.left
+  pub takes : taken FRAME_BYTES t limits gate.left ≡ frames
+  pub count : counts FRAME_BYTES t limits gate.left ≡ record {
+    ended = Some Over;
+    datagrams = length frames;
+    frames = length frames;
+    refused = refused_of 0 [];
+  }
+
+-- Where there may be more datagrams than all generations can have frames, each gate gives the frames that were dealt to it, and so
+-- all gates, one after another, those that were dealt to all.
+pub record GiveAllFrames (t : TicketFields) (limits : Limits) (n : ℕ) (frames : List (ℕ × ℕ)) (gates : List GateState) : Type 0 where
+  pub count : length gates ≡ n
+  pub each : (i : ℕ) (gate : GateState) → i < n → GivesAll t limits (slice_index_or gates i gate) (dealt n i frames)
+  pub all : flat_map (λ gate. taken FRAME_BYTES t limits gate.left) gates ≡ all_dealt n frames
+
+abbrev pub TrialGatesGiveAll : Type 0
+TrialGatesGiveAll =
+    (t : TicketFields) (loss : Loss) (n : ℕ) (word : ℕ → ℕ) (limits : Limits) → IsTicket t → IsPossible t loss →
+    1 ≤ limits.idle → MAX_GENERATIONS * MAX_WIDTH < limits.most →
+    GiveAllFrames t limits n (trial_frames t loss word) (trial_gates t loss n word)
