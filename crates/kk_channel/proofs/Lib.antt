@@ -1,4 +1,4 @@
-mod Words
-mod Mixing
-mod Injecting
-mod Losses
+pub mod Words
+pub mod Mixing
+pub mod Injecting
+pub mod Losses
