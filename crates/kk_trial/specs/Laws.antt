@@ -12,13 +12,12 @@ use Rattle.kk_outside.specs.GateState.{GateState}
 use Rattle.kk_frame.specs.declared.frame.TheConstants.{FRAME_BYTES}
 use Rattle.kk_frame.specs.declared.limits.Limits.{Limits}
 use Rattle.kk_frame.specs.declared.gate_count.Ended.TheVariants.{Over}
-use Rattle.kk_frame.specs.declared.gate_count.GateCount.{GateCount}
 use Rattle.kk_frame.specs.Events.{stop, taken, counts, refused_of}
 use Rattle.kk_frame.specs.Frame.{Vector, IsFrame}
 use Rattle.kk_frame.specs.Generation.{rows_of}
 use Rattle.kk_channel.specs.Laws.{HasLoss}
 use Rattle.kk_trial.specs.declared.loss.Loss.{Loss}
-use Rattle.kk_trial.specs.Trial.{made_file, received_rows, trial_frames, dealt, all_dealt, trial_events, trial_gates}
+use Rattle.kk_trial.specs.Trial.{made_file, received_rows, trial_frames, dealt, all_dealt, trial_gates}
 
 -- The code has as many dimensions as are erased, and as many as are injected.
 pub record IsPossible (t : TicketFields) (loss : Loss) : Type 0 where

@@ -12,7 +12,7 @@ use Rattle.kk_outside.specs.declared.event.Event.TheVariants.{Datagram}
 use Rattle.kk_frame.specs.Frame.{frame_text}
 use Rattle.kk_frame.specs.FrameExamples.{data_frame}
 use Rattle.kk_trial.specs.declared.loss.Loss.{Loss}
-use Rattle.kk_trial.specs.Trial.{made_file, received_rows, trial_frames, dealt_from, dealt, trial_gates}
+use Rattle.kk_trial.specs.Trial.{made_file, trial_frames, dealt_from, dealt, trial_gates}
 
 -- ---- files
 

@@ -2,6 +2,7 @@
 //! operator channel, dealt over gates in memory.
 #![tactic(auto)]
 
+pub mod laws;
 mod loss;
 
 pub use loss::Loss;
