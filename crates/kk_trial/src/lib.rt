@@ -2,7 +2,13 @@
 //! operator channel, dealt over gates in memory.
 #![tactic(auto)]
 
+mod dealing;
 pub mod laws;
 mod loss;
+mod making;
+mod passing;
+mod trials;
 
+pub use kk_outside::Alloc;
 pub use loss::Loss;
+pub use trials::{Trial, make_trial};

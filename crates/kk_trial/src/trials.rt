@@ -1,0 +1,53 @@
+//! A trial of a receiver.
+ghost use Rattle.std.specs.Prelude.{◌≡◌, ◌≤◌, IfOk, OnOk};
+ghost use Rattle.kk_outside.specs.Generator.{after_words, word_at};
+ghost use Rattle.kk_code.specs.Ticket.{generations};
+ghost use Rattle.kk_trial.specs.Trial.{made_file, words_before, trial_gates};
+
+use crate::Loss;
+use crate::dealing::deal;
+use crate::making::make_file;
+use crate::passing::pass_file;
+use kk_code::Ticket;
+use kk_outside::{Alloc, MemoryGate};
+use rand_core::Rng;
+use std::alloc::Global;
+use std::marker::Brand;
+use std::sync::ledger::Blank;
+
+/// A file, and the gates that give the frames of its generations after the channel.
+#[derive(Drop)]
+pub struct Trial {
+    /// What a receiver should make of the frames.
+    pub file: Vec<u8>,
+    /// The gates, which nobody has asked yet.
+    pub gates: Vec<MemoryGate>,
+}
+
+/// Makes a file of the ticket's length by the words of the generator, passes the codewords of its generations through an operator
+/// channel, and deals the frames over so many gates.
+///
+/// Frame number i, counted over all generations, is one datagram of gate i modulo `gates`. No gate gives an END.
+///
+/// # Errors
+///
+/// There is no memory.
+pub fn make_trial<R: Rng>(
+    alloc: Global,
+    ticket: &Ticket,
+    loss: Loss,
+    gates: u32,
+    rng: &mut R,
+) -> Result<Trial, Alloc>
+    requires erase { loss.erase ≤ ticket.now.code.l }
+    requires inject { loss.inject ≤ ticket.now.code.field.degree }
+    requires some { 1 ≤ gates }
+    ensures file { IfOk result (λ trial. trial.file.items ≡ made_file ticket.now.length (word_at (R.stream rng.old))) }
+    ensures gates { IfOk result (λ trial. trial.gates.items ≡ trial_gates ticket.now loss gates (word_at (R.stream rng.old))) }
+    ensures words { OnOk result (R.stream rng.new ≡ after_words (words_before ticket.now loss (generations ticket.now)) (R.stream rng.old)) }
+{
+    let file = make_file(alloc, ticket.length() as usize, rng)?;
+    let frames = pass_file::<Brand, R>(alloc, ticket, &file, loss, rng, Blank::new(1))?;
+    let gates = deal(alloc, ticket, &frames, gates)?;
+    Ok(Trial { file, gates })
+}
