@@ -12,3 +12,6 @@ mod trials;
 pub use kk_outside::Alloc;
 pub use loss::Loss;
 pub use trials::{Trial, make_trial};
+
+#[cfg(test)]
+mod tests;
