@@ -26,7 +26,7 @@ use Rattle.kk_frame.proofs.Packs.{length-frame_text, readings-one}
 use Rattle.kk_frame.proofs.Readings.{data_frames-append, data_frames-vector}
 use Rattle.kk_frame.proofs.Stops.{datagrams-append, shortest_prefix-nil, shortest_prefix-push, end_with-nil, end_with-datagram, counts_over-datagram, with_datagram}
 use Rattle.kk_trial.specs.Trial.{dealt, trial_events, trial_frames}
-use Rattle.kk_trial.specs.Laws.{GivesAll, TrialGatesGiveAll}
+use Rattle.kk_trial.specs.Laws.{GivesAll, FramesAreTaken, TrialGatesGiveAll}
 use Rattle.kk_trial.proofs.Ranges.{flat_map-same}
 use Rattle.kk_trial.proofs.Dealt.{length-dealt_from, All-dealt_from}
 use Rattle.kk_trial.proofs.Frames.{trial_frames_are_frames}
@@ -133,8 +133,8 @@ runs-more t limits before (f ∷ frames) ticket are idle few runs =
     (runs-more t limits (before ++ f ∷ []) frames ticket (All-tail (IsData t) f frames are) idle (omega (arith, few, length-append before (f ∷ [])))
     (runs-push t limits before f ticket (All-head (IsData t) f frames are) idle (omega (arith, few)) runs))
 
-pub gives_all : (t : TicketFields) (limits : Limits) (frames : List (ℕ × ℕ)) → IsTicket t → All (IsData t) frames → 1 ≤ limits.idle → length frames < limits.most → GivesAll t limits (unasked (trial_events t frames)) frames
-gives_all t limits frames ticket are idle few =
+pub frames_are_taken : FramesAreTaken
+frames_are_taken t limits frames ticket are idle few =
     let runs = runs-more t limits [] frames ticket are idle (omega (arith, few)) (runs-none t limits idle (omega (arith, few))) in
     let over : Option Ended → Option Ended = λ end. Some (unwrap_or end Over) in
     record {
@@ -158,7 +158,7 @@ trial_gates_give_all t loss n word limits ticket possible idle many =
     let are = trial_frames_are_frames t loss word ticket possible in
     let gate : ℕ → GateState = λ i. unasked (trial_events t (dealt n i frames)) in
     let gives : (i : ℕ) → GivesAll t limits (gate i) (dealt n i frames) = λ i.
-    gives_all t limits (dealt n i frames) ticket (All-dealt_from (IsData t) 0 n i frames are.in_range) idle (omega (arith, many, are.few, length-dealt_from 0 n i frames)) in
+    frames_are_taken t limits (dealt n i frames) ticket (All-dealt_from (IsData t) 0 n i frames are.in_range) idle (omega (arith, many, are.few, length-dealt_from 0 n i frames)) in
     record {
       count = length-map-range_with_len gate 0 n;
       each = λ i d below. subst (λ g. GivesAll t limits g (dealt n i frames)) (sym (get_or-map-range_with_len gate 0 n i i d below (omega arith))) (gives i);

@@ -6,3 +6,4 @@ pub mod Passed
 pub mod Dealt
 pub mod Frames
 pub mod Gates
+pub mod Received

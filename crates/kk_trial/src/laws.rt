@@ -1,5 +1,5 @@
 //! Laws of trials, each the contract of a function that does nothing.
-ghost use Rattle.kk_trial.specs.Laws.{MadeFileHasItsLength, ReceivedRowsHaveTheLoss, AnswerIsTheMessage, TrialFramesAreFrames, DealingIsAPermutation, DealingKeepsRows, TrialGatesGiveAll};
+ghost use Rattle.kk_trial.specs.Laws.{MadeFileHasItsLength, ReceivedRowsHaveTheLoss, AnswerIsTheMessage, TrialFramesAreFrames, DealingIsAPermutation, DealingKeepsRows, FramesAreTaken, TrialGatesGiveAll, TrialIsReceived};
 
 /// The made file has as many bytes as were asked for.
 pub fn made_file_has_its_length()
@@ -32,7 +32,18 @@ pub fn dealing_keeps_rows()
     ensures { DealingKeepsRows }
 {}
 
+/// Data frames in datagrams of their own are all taken, and the gate ends by Over.
+pub fn frames_are_taken()
+    ensures { FramesAreTaken }
+{}
+
 /// Each gate gives all of its frames, which a receiver takes, and ends by Over.
 pub fn trial_gates_give_all()
     ensures { TrialGatesGiveAll }
+{}
+
+/// What a receiver takes of all gates are all frames, and of each generation rows that on the radius and within it decode to the
+/// file's message.
+pub fn trial_is_received()
+    ensures { TrialIsReceived }
 {}

@@ -1,5 +1,6 @@
-use Rattle.std.proofs.Common.{ℕ, ◌+◌, ◌-◌, ◌/◌, ◌≤◌, List, Result, Ok, Err, Some, sym, ap, ◌∙◌, arith}
+use Rattle.std.proofs.Common.{ℕ, ◌+◌, ◌-◌, ◌/◌, ◌≤◌, List, Result, Ok, Err, Some, refl, sym, ap, ◌∙◌, arith}
 use Rattle.std.specs.Prelude.{IfOk, flat_map}
+use Rattle.kk_rows.proofs.Spans.{HaveSameSpan-from_members}
 use Rattle.kk_code.specs.Codeword.{Parameters}
 use Rattle.kk_code.specs.Decoding.{answer}
 use Rattle.kk_assemble.specs.FileBits.{cut}
@@ -8,12 +9,10 @@ use Rattle.kk_outside.specs.Generator.{word_at}
 use Rattle.kk_frame.specs.declared.frame.TheConstants.{FRAME_BYTES}
 use Rattle.kk_frame.specs.Events.{taken}
 use Rattle.kk_frame.specs.Generation.{rows_of}
-use Rattle.kk_trial.specs.Trial.{trial_frames, all_dealt}
+use Rattle.kk_trial.specs.Trial.{trial_gates}
 use Rattle.kk_trial.specs.Laws.{IsPossible}
 use Rattle.kk_trial.specs.declared.loss.Loss.{Loss}
-use Rattle.kk_trial.proofs.Rows.{answer_is_the_message}
-use Rattle.kk_trial.proofs.Frames.{dealing_keeps_rows}
-use Rattle.kk_trial.proofs.Gates.{trial_gates_give_all}
+use Rattle.kk_trial.proofs.Received.{trial_is_received}
 use Rattle.kk_trial.proofs.tests.trial_on_the_radius.Goals as goal
 
 IfOk-both : {T E : Type 0} (P Q R : T → Type 0) (r : Result T E) → IfOk r P → IfOk r Q → ((x : T) → P x → Q x → R x) → IfOk r R
@@ -41,12 +40,9 @@ returns g c = λ number limits below idle most.
     let ticket = c.code-code.ensures.ticket in
     let possible : IsPossible t loss = record { erase = omega (arith, l); inject = omega (arith, l, ticket.code.l_high) } in
     let few : half + half ≤ t.code.l - t.code.k = omega (arith, l, k) in
-    let give = trial_gates_give_all t loss n word limits ticket possible (omega (arith, idle)) (omega (arith, most)) in
-    let all = all_dealt n (trial_frames t loss word) in
-    let spans = (dealing_keeps_rows t loss word n number c.requires below).spans in
-    let message = answer_is_the_message t loss word number (rows_of number all) ticket possible few spans in
+    let received = trial_is_received t loss n word limits ticket possible c.requires (omega (arith, idle)) (omega (arith, most)) in
     IfOk-both _ _ _ c.make_trial.result c.make_trial.ensures.file c.make_trial.ensures.gates (λ trial file gates.
-    ap (λ (gs : List GateState). answer t.code (rows_of number (flat_map (λ gate. taken FRAME_BYTES t limits gate.left) gs))) gates
-    ∙ ap (λ (frames : List (ℕ × ℕ)). answer t.code (rows_of number frames)) give.all
-    ∙ message
+    let rows : List GateState → List ℕ = λ gs. rows_of number (flat_map (λ gate. taken FRAME_BYTES t limits gate.left) gs) in
+    ap (λ (gs : List GateState). answer t.code (rows gs)) gates
+    ∙ received.answers number (rows (trial_gates t loss n word)) below few (HaveSameSpan-from_members _ _ (λ x. refl))
     ∙ ap (λ (f : List ℕ). Some (cut t.code f number)) (sym file))
