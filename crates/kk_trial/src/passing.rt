@@ -10,10 +10,11 @@ ghost use Rattle.kk_trial.specs.Trial.{file_words, made_file, words_before, tria
 use crate::Loss;
 use kk_assemble::cut;
 use kk_channel::pass_through;
-use kk_code::{Ticket, encode};
+use kk_code::{Ticket, encode_with};
 use kk_field::Steps;
 use kk_outside::Alloc;
 use kk_rows::Row;
+use kk_tables::FieldTables;
 use rand_core::Rng;
 use std::alloc::Global;
 use std::sync::ledger::{Blank, Ledger};
@@ -41,11 +42,12 @@ pub(crate) fn pass_file<L: Ledger, R: Rng>(
         → OnOk result (R.stream rng.new ≡ after_words (words_before ticket.now loss (generations ticket.now)) start) }
 {
     let code = ticket.code();
+    let tables = FieldTables::new(code.field());
     let mut steps = Steps::<L>::new(blank);
     let mut frames = Vec::new(alloc);
     for generation in 0..ticket.generations() {
         let message = cut(file, ticket, generation);
-        let codeword = encode(&code, &message, &mut steps);
+        let codeword = encode_with(&tables, &code, &message, &mut steps);
         let passed = pass_through(&code, &codeword, loss.erase, loss.inject, rng);
         push_rows(&mut frames, generation, passed.as_slice())?;
     }
