@@ -10,7 +10,7 @@ use Rattle.kk_field.specs.Polynomial.{IsIrreducible}
 use Rattle.kk_code.specs.declared.fault.TicketFault.{TicketFault}
 use Rattle.kk_code.specs.declared.fault.TicketFault.TheVariants as fault
 use Rattle.kk_words.specs.declared.command.Command.TheVariants.{Unpack}
-use Rattle.kk_words.specs.declared.argument.Name.TheVariants.{Extra, Pack as FramesOfDatagram, Rate, Idle, Most, Tolerate}
+use Rattle.kk_words.specs.declared.argument.Name.TheVariants.{Extra, Pack as FramesOfDatagram, Rate, Idle, Most, Tolerate, Erase, Inject, Gates}
 use Rattle.kk_words.specs.declared.command.Command.{Command}
 use Rattle.kk_words.specs.Commands.{command_named}
 use Rattle.kk_words.specs.Request.{Request, request_of, request_for, request_from, is_of_form, matches_for, number_of}
@@ -95,6 +95,9 @@ refused_tells words (Range FramesOfDatagram) status why is other = absurd why
 refused_tells words (Range Rate) status why is other = absurd why
 refused_tells words (Range Idle) status why is other = absurd why
 refused_tells words (Range Tolerate) status why is other = absurd why
+refused_tells words (Range Erase) status why is other = absurd why
+refused_tells words (Range Inject) status why is other = absurd why
+refused_tells words (Range Gates) status why is other = absurd why
 refused_tells words (Range Most) status why is other = record {
   words_refused = (λ e. absurd (omega (arith, e, is)), λ none. absurd (none why.3.request why.3.asked));
   ticket_refused = (

@@ -20,3 +20,5 @@ pub mod RelayPromises
 pub mod Logged
 pub mod Receivers
 pub mod Recvs
+pub mod Sims
+pub mod Simulations

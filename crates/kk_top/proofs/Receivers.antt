@@ -243,7 +243,7 @@ module _ (t : TicketFields) (plan : Plan) (gates : List (Change GateTold)) (r : 
         map_at rank r.logs.logs g d unseen (omega (arith, below, line.all_logs)) ∙ rank_is g below ∙ sym (get_or-map-range_with_len dim 0 n g g d below (omega arith))))
         ∙ sum-map dim (range_with_len 0 n)
 
-    totals_are : r.totals ≡ totals_of t vectors
+    pub totals_are : r.totals ≡ totals_of t vectors
     totals_are =
         let none = line.nobody_late no_goal in
         let ranks = sums.innovative ∙ ranks_are in

@@ -8,6 +8,7 @@ pub mod Receiver
 pub mod Refusal
 pub mod Report
 pub mod Seed
+pub mod Simulation
 pub mod Spaces
 pub mod Status
 pub mod Words

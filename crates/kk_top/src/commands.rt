@@ -4,6 +4,7 @@ mod plan;
 mod recv;
 mod relay;
 mod send;
+mod sim;
 mod unpack;
 
 pub use pack::run_pack;
@@ -11,4 +12,5 @@ pub use plan::run_plan;
 pub use recv::run_recv;
 pub use relay::run_relay;
 pub use send::run_send;
+pub use sim::run_sim;
 pub use unpack::run_unpack;

@@ -14,6 +14,7 @@ mod receiver;
 mod receiver_report;
 mod refusal;
 mod report;
+mod simulation;
 mod status;
 #[cfg(test)]
 mod tests;
@@ -22,7 +23,7 @@ mod unpacking;
 mod words;
 
 pub use addresses::{Addresses, places};
-pub use commands::{run_pack, run_plan, run_recv, run_relay, run_send, run_unpack};
+pub use commands::{run_pack, run_plan, run_recv, run_relay, run_send, run_sim, run_unpack};
 pub use kk_outside::Alloc;
 pub use kk_words::WordsFault;
 pub use kk_workers::MAX_GATES;

@@ -13,12 +13,13 @@ ghost use Rattle.kk_top.specs.commands.Plan.{NamesCode, Plans};
 ghost use Rattle.kk_top.specs.commands.Relay.{Relays};
 ghost use Rattle.kk_top.specs.commands.Recv.{Order, OrdersReceiving, Receives};
 ghost use Rattle.kk_top.specs.commands.Send.{Sends};
+ghost use Rattle.kk_top.specs.commands.Sim.{Simulates};
 ghost use Rattle.kk_top.specs.commands.Unpack.{UnpacksUnder, unpacked, Unpacks};
 
 use crate::refusal::Refusal;
 use crate::report::refuse;
 use crate::words::command_in;
-use crate::{run_pack, run_plan, run_recv, run_relay, run_send, run_unpack};
+use crate::{run_pack, run_plan, run_recv, run_relay, run_send, run_sim, run_unpack};
 use kk_outside::{Gate, Outlet, Sink, Source};
 use kk_table::Logs;
 use kk_words::Command;
@@ -28,8 +29,8 @@ use std::thread::Threads;
 /// Runs the command that the words name, and answers its status.
 ///
 /// `words` are those of the command line, without the program's name. The commands so far are `plan`, `pack`,
-/// `unpack`, `send`, `relay` and `recv`. `rt` starts threads, and nothing can be printed or opened by it. `logs` is empty before,
-/// and `recv` leaves its logs there.
+/// `unpack`, `send`, `relay`, `recv` and `sim`. `rt` starts threads, and nothing can be printed or opened by it. `logs` is empty
+/// before, and `recv` and `sim` leave their logs there.
 pub fn run<R: Threads + Sync, S: Source, K: Sink, P: Sink, G: Gate + Send, O: Outlet>(
     rt: &R,
     alloc: Global,
@@ -67,21 +68,24 @@ pub fn run<R: Threads + Sync, S: Source, K: Sink, P: Sink, G: Gate + Send, O: Ou
     ensures receives { named_in (texts words.now) ≡ Some Command.Recv
         → Receives (texts words.now) (changes G.told gates.old.items gates.new.items)
         (change (K.told file.old) (K.told file.new)) (change (P.told report.old) (P.told report.new)) logs.new.items result }
+    ensures simulates { named_in (texts words.now) ≡ Some Command.Sim
+        → Simulates (texts words.now) (change (P.told report.old) (P.told report.new)) logs.new.items result }
 
-    // A run that ended at once read nothing; of `plan` that is one whose words name no code, or that had no memory. `relay`
-    // and `recv` read nothing at all.
+    // A run that ended at once read nothing; of `plan` that is one whose words name no code, or that had no memory. `relay`,
+    // `recv` and `sim` read nothing at all.
     ensures unread { (named_in (texts words.now) ≡ Some Command.Plan → ⊥) → EndedAtOnce result → source.new ≡ source.old }
     ensures unread_by_plan { named_in (texts words.now) ≡ Some Command.Plan
         → (result ≡ 1) ⊎ ((result ≡ 8) ⊎ ((t : TicketFields) → NamesCode (texts words.now) t → ⊥)) → source.new ≡ source.old }
-    ensures source { (named_in (texts words.now) ≡ Some Command.Relay) ⊎ (named_in (texts words.now) ≡ Some Command.Recv) → source.new ≡ source.old }
+    ensures source { (named_in (texts words.now) ≡ Some Command.Relay) ⊎ ((named_in (texts words.now) ≡ Some Command.Recv) ⊎ (named_in (texts words.now) ≡ Some Command.Sim)) → source.new ≡ source.old }
 
-    // The file's sink is called only by a run that came to its end, only for a file that has bytes, and not by `send` or `relay`.
+    // The file's sink is called only by a run that came to its end, only for a file that has bytes, and not by `send`,
+    // `relay` or `sim`.
     ensures unwritten { (MayTouchFile result → ⊥) → file.new ≡ file.old }
     ensures no_bytes_unpacked { (t : TicketFields) (most : ℕ) → UnpacksUnder t most (texts words.now) result
         → unpacked t most (bytes_read (change (S.told source.old) (S.told source.new))) ≡ Some [] → file.new ≡ file.old }
     ensures no_bytes_received { (order : Order) → OrdersReceiving (texts words.now) order → (EndedAtOnce result → ⊥)
         → received order.ticket order.limits (changes G.told gates.old.items gates.new.items) ≡ Some [] → file.new ≡ file.old }
-    ensures file { (named_in (texts words.now) ≡ Some Command.Send) ⊎ (named_in (texts words.now) ≡ Some Command.Relay) → file.new ≡ file.old }
+    ensures file { (named_in (texts words.now) ≡ Some Command.Send) ⊎ ((named_in (texts words.now) ≡ Some Command.Relay) ⊎ (named_in (texts words.now) ≡ Some Command.Sim)) → file.new ≡ file.old }
 
     // Only `relay` and `recv` receive datagrams, `relay` from the first gate alone, and not where they ended at once.
     ensures gates { (named_in (texts words.now) ≡ Some Command.Relay → ⊥) → (named_in (texts words.now) ≡ Some Command.Recv → ⊥) → gates.new ≡ gates.old }
@@ -95,8 +99,8 @@ pub fn run<R: Threads + Sync, S: Source, K: Sink, P: Sink, G: Gate + Send, O: Ou
     ensures unsent { EndedAtOnce result → outlet.new ≡ outlet.old }
     ensures no_file_sent { named_in (texts words.now) ≡ Some Command.Send → (RanThrough result → ⊥) → (result ≡ 7 → ⊥) → outlet.new ≡ outlet.old }
 
-    // Only `recv` leaves logs, and not where it ended at once.
-    ensures logs { (named_in (texts words.now) ≡ Some Command.Recv → ⊥) → logs.new ≡ logs.old }
+    // Only `recv` and `sim` leave logs, and not where they ended at once.
+    ensures logs { (named_in (texts words.now) ≡ Some Command.Recv → ⊥) → (named_in (texts words.now) ≡ Some Command.Sim → ⊥) → logs.new ≡ logs.old }
     ensures none_left { EndedAtOnce result → logs.new.items ≡ [] }
 {
     let Some(command) = command_in(words) else {
@@ -109,5 +113,6 @@ pub fn run<R: Threads + Sync, S: Source, K: Sink, P: Sink, G: Gate + Send, O: Ou
         Command::Send => run_send(alloc, words, source, report, outlet),
         Command::Relay => run_relay(alloc, words, report, gates, outlet),
         Command::Recv => run_recv(rt, alloc, words, file, report, gates, logs),
+        Command::Sim => run_sim(rt, alloc, words, report, logs),
     }
 }

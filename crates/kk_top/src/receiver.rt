@@ -63,7 +63,7 @@ pub(crate) fn receive_under<R: Threads + Sync, K: Sink, P: Sink, G: Gate + Send>
 }
 
 /// Room for the bytes of the file.
-fn room_of(alloc: Global, ticket: &Ticket) -> Result<Vec<u8>, Alloc>
+pub(crate) fn room_of(alloc: Global, ticket: &Ticket) -> Result<Vec<u8>, Alloc>
     ensures { IfOk result (λ bytes. vec_len bytes ≡ ticket.now.length) }
 {
     let mut bytes = Vec::new(alloc);

@@ -129,6 +129,9 @@ fn range_cause(name: Name) -> Line
         Name::Idle => line_of("range idle"),
         Name::Most => line_of("range most"),
         Name::Tolerate => line_of("range tolerate"),
+        Name::Erase => line_of("range erase"),
+        Name::Inject => line_of("range inject"),
+        Name::Gates => line_of("range gates"),
     }
 }
 

@@ -1,7 +1,7 @@
 //! What the words ask of a command, and the ranges of its numbers.
 ghost use Rattle.std.specs.Prelude.{◌≡◌, ◌⊎◌, Err, IfOk, IfErr, IfSome, IsNone, IsSome, IsTrue, is_some, length, option_map};
 ghost use Rattle.kk_words.specs.Arguments.{default_of};
-ghost use Rattle.kk_words.specs.Request.{HasTexts, has_number, has_seed, number_of};
+ghost use Rattle.kk_words.specs.Request.{HasTexts, has_number, has_place, has_seed, number_of};
 ghost use Rattle.kk_top.specs.Command.{texts};
 ghost use Rattle.kk_top.specs.Seed.{seed_of};
 ghost use Rattle.kk_top.specs.Words.{IsRequestFor, AsksNothingOf, named_in, IsMost};
@@ -30,10 +30,12 @@ pub(crate) fn asked_of(alloc: Global, words: &[String], command: Command) -> Res
     ensures words { result ≡ Err Refusal.Words → AsksNothingOf (texts words.now) command }
     ensures no_other { IfErr result (λ refusal. (refusal ≡ Refusal.Words) ⊎ (refusal ≡ Refusal.Memory)) }
 
-    // Each word of the command's form has a text; its seed is there, and each of its numbers that has a default.
+    // Each word of the command's form has a text; its seed is there, and so is each of its numbers that has a default or a
+    // place of its own.
     ensures texts { IfOk result (λ asked. HasTexts command (length asked.texts)) }
     ensures seed { IfOk result (λ asked. IsTrue (has_seed command) → IsSome asked.seed) }
     ensures numbers { IfOk result (λ asked. (name : Name) → IsTrue (is_some (default_of name)) → IsTrue (has_number command name) → IsSome (number_of asked.numbers name)) }
+    ensures placed { IfOk result (λ asked. (name : Name) → IsTrue (has_place command name) → IsSome (number_of asked.numbers name)) }
 {
     let asked = match read_words(alloc, words) {
         Ok(asked) => asked,

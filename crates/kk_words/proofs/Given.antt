@@ -1,90 +1,166 @@
--- An argument that is required and was taken has a value: each row of the matches has one.
-use Rattle.std.proofs.Common.{◌≡◌, ◌∙◌, ◌&&◌, ◌||◌, ℕ, zero, suc, Bool, true, false, not, cond, refl, sym, ap, List, [], ◌∷◌, ◌++◌, length, Option, Some, None, true≢false, drop}
-use Rattle.std.specs.Prelude.{find, fold, nat_le, is_some, encode_utf8, slice_get, unwrap_or, map, option_map, option_and_then}
-use Rattle.std.specs.List.{list_all}
+-- An argument that is required and was taken has a value: each row of the matches has one, and numbers where it is a number.
+use Rattle.std.proofs.Common.{◌≡◌, ◌∙◌, ◌&&◌, ◌||◌, ◌<◌, ℕ, zero, suc, Bool, true, false, not, cond, refl, sym, ap, subst, arith, eqb-true, List, [], ◌∷◌, ◌++◌, length, Option, Some, None, true≢false, drop}
+use Rattle.std.specs.Prelude.{◌^◌, find, fold, nat_le, is_some, encode_utf8, slice_get, unwrap_or, map, option_map, option_and_then}
+use Rattle.std.specs.List.{list_all, list_any}
 use Rattle.std.specs.Option.{option_map_or}
 use Rattle.std.specs.Str.{bytes_eq, chars}
+use Rattle.std.specs.Str.Parse.{digits_value, without_leading_plus}
 use Rattle.std.proofs.lemmas.List.Folds.{list_all-append}
+use Rattle.std.proofs.lemmas.Slice.Eq.{bytes_eq-Decides}
 use Rattle.clap.specs.Lexer.{long_of, short_of}
-use Rattle.clap.specs.Facts.{explicit_source, unwrap_or_range}
-use Rattle.clap.specs.Walk.{Held, Names, Outcome, Row, Rule, Step, Text, Waiting, Walk, action_of, after_flag, after_step, all_of, arg_by_id, arg_by_index, arg_by_long, arg_by_short, at_row, attached_value, bundle_met, bundle_step, default_rows, finished, first_of, flag_met, has_row, is_pending, long_met, long_or_other, more_values, nothing_held, option_met, option_word, plain_word, reacted, reading_by, rows_after, settled, settled_rows, short_met, short_or_plain, subcommand_met, subcommand_or_other, takes_several, takes_values, to_positional, used, used_as, used_by_id, walk, walk_from, walked, walked_from, with_default, with_values, without, word_met}
+use Rattle.clap.specs.Facts.{explicit_source, parser_of_value, unwrap_or_range}
+use Rattle.clap.specs.Walk.{Held, Names, Outcome, Row, Rule, Step, Text, Waiting, Walk, action_of, after_flag, after_step, all_of, arg_by_id, arg_by_index, arg_by_long, arg_by_short, at_row, attached_value, bundle_met, bundle_step, default_rows, first_of, flag_met, has_row, is_empty, is_pending, long_met, long_or_other, more_values, most_values, nothing_held, option_met, option_word, plain_word, reacted, reading_by, rows_after, settled, settled_rows, short_met, short_or_plain, subcommand_met, subcommand_or_other, takes_several, takes_values, to_positional, used, used_as, used_by_id, walk, walk_from, walked, walked_from, with_default, with_values, without, word_met}
 use Rattle.clap.specs.Walk.{done, waits, plain, refused, idle, option, positional, next, trailing, subcommand, value}
 use Rattle.clap.specs.Simple.{App, Shape, argument_words, built, entered, filled_from, is_simple, matches_of}
-use Rattle.clap.specs.Takes.{bundle_passes, bundle_step_passes, built_takes, default_passes, entered_passes, flag_word_passes, flags_pass, is_given, is_valid, level_passes, long_passes, option_passes, other_passes, positional_passes, react_passes, settle_passes, short_passes, step_passes, takes, turn_passes, use_passes, walk_passes, word_passes}
+use Rattle.clap.specs.Takes.{bundle_passes, bundle_step_passes, built_takes, default_passes, entered_passes, flag_word_passes, flags_pass, is_given, action_passes, values_pass, level_passes, long_passes, option_passes, other_passes, positional_passes, react_passes, settle_passes, short_passes, step_passes, takes, turn_passes, use_passes, walk_passes, word_passes}
 use Rattle.clap.specs.declared.builder.action.ArgAction.{ArgAction}
 use Rattle.clap.specs.declared.builder.action.ArgAction.TheVariants as action
+use Rattle.clap.specs.ValueTests.{accepts}
 use Rattle.clap.specs.declared.builder.value_parser.Reading.{Reading}
+use Rattle.clap.specs.declared.builder.value_parser.ValueParser.{ValueParser}
+use Rattle.clap.specs.declared.builder.value_parser.ValueParser.TheVariants as parser
 use Rattle.clap.specs.declared.parser.matches.ValueSource.{ValueSource}
-use Rattle.clap.specs.declared.parser.matches.ValueSource.TheVariants.{CommandLine, DefaultValue}
+use Rattle.clap.specs.declared.parser.matches.ValueSource.TheVariants.{CommandLine}
+use Rattle.clap.proofs.ValueTestLemmas.{accepts-Accepts, Accepts-accepts}
 use Rattle.clap.proofs.WalkLemmas.{both}
 use Rattle.kk_words.specs.declared.command.Command.{Command}
-use Rattle.kk_words.specs.declared.command.Command.TheVariants.{Plan, Pack, Unpack, Send, Relay, Recv}
-use Rattle.kk_words.specs.Arguments.{rule_of_argument}
+use Rattle.kk_words.specs.declared.command.Command.TheVariants.{Plan, Pack, Unpack, Send, Relay, Recv, Sim}
+use Rattle.kk_words.specs.declared.argument.Name.TheVariants.{Erase, Inject, Gates}
+use Rattle.kk_words.specs.Arguments.{rule_of_argument, text_of_name, unsigned_64}
 use Rattle.kk_words.specs.Commands.{app_for, form_of}
+use Rattle.kk_words.specs.Request.{number_read}
 
 abbrev pub has_some : List Text → Bool
 has_some [] = false
 has_some (x ∷ xs) = true
 
-abbrev is_filled : Row → Bool
-is_filled r = has_some r.values
+-- clap knows a word by this that is a number
+abbrev pub is_number_id : Text → Bool
+is_number_id id = list_any (λ n. bytes_eq (text_of_name n) id) (Erase ∷ Inject ∷ Gates ∷ [])
 
--- each row has a value
+-- these are values of an argument of this id: some, and numbers where it is a number
+abbrev fits : Text → List Text → Bool
+fits id vs = has_some vs && (not (is_number_id id) || list_all (accepts false unsigned_64) vs)
+
+abbrev is_filled : Row → Bool
+is_filled r = fits r.id r.values
+
+-- each row has a value, and numbers where it is one of a number
 abbrev pub filled : List Row → Bool
 filled rows = list_all is_filled rows
 
+abbrev reads_numbers : ValueParser → Bool
+reads_numbers (parser.Unsigned low high) = true
+reads_numbers other = false
+
 -- a use of the argument has a value
+abbrev wants_some : Rule → Bool
+wants_some a = not (nat_le (unwrap_or_range a.range).start_inclusive 0)
+
+-- a use of the argument has a value, which is a number where its id is one of a number, and nothing stands for no use
 abbrev wants_value : Rule → Bool
-wants_value a = not (nat_le (unwrap_or_range a.range).start_inclusive 0)
+wants_value a = wants_some a && (is_empty a.defaults && (not (is_number_id a.id) || reads_numbers (parser_of_value a.parser)))
 
 and : (a b : Bool) → a ≡ true → b ≡ true → (a && b) ≡ true
 and true b p q = q
 and false b p q = absurd (true≢false (sym p))
 
+-- ---- values
+
+-- what a reader of numbers takes is a number
+numbers_read : (ignore_case : Bool) (p : ValueParser) (vs : List Text) → reads_numbers p ≡ true → list_all (accepts ignore_case p) vs ≡ true
+    → list_all (accepts false unsigned_64) vs ≡ true
+numbers_read ignore_case p [] reads e = refl
+numbers_read ignore_case p (v ∷ vs) reads e =
+    let here = both (accepts ignore_case p v) _ e in
+    and _ _ (one p reads here.0) (numbers_read ignore_case p vs reads here.1)
+  where
+    one : (p : ValueParser) → reads_numbers p ≡ true → accepts ignore_case p v ≡ true → accepts false unsigned_64 v ≡ true
+    one (parser.Unsigned low high) reads e =
+        let number = accepts-Accepts ignore_case (parser.Unsigned low high) v e in
+        let small : digits_value 10 (without_leading_plus v) < 2 ^ 64 = number.1 in
+        Accepts-accepts false unsigned_64 v (number.0, small, omega arith, omega (arith, small))
+    one parser.String reads e = absurd (true≢false (sym reads))
+    one parser.Falsey reads e = absurd (true≢false (sym reads))
+    one parser.NonEmptyString reads e = absurd (true≢false (sym reads))
+    one parser.Bool reads e = absurd (true≢false (sym reads))
+    one parser.Boolish reads e = absurd (true≢false (sym reads))
+    one (parser.Signed low high) reads e = absurd (true≢false (sym reads))
+    one parser.Float reads e = absurd (true≢false (sym reads))
+    one parser.Char reads e = absurd (true≢false (sym reads))
+    one (parser.Names names) reads e = absurd (true≢false (sym reads))
+    one (parser.Values values) reads e = absurd (true≢false (sym reads))
+
+-- the values of a use that passes are values of its argument
+passed_fit : (a : Rule) (v : Text) (vs : List Text) → wants_value a ≡ true → values_pass a (v ∷ vs) ≡ true → fits a.id (v ∷ vs) ≡ true
+passed_fit a v vs wants e = go (is_number_id a.id) (both (is_empty a.defaults) _ (both (wants_some a) _ wants).1).1
+  where
+    go : (b : Bool) → (not b || reads_numbers (parser_of_value a.parser)) ≡ true → (not b || list_all (accepts false unsigned_64) (v ∷ vs)) ≡ true
+    go true reads = numbers_read a.ignore_case (parser_of_value a.parser) (v ∷ vs) reads e
+    go false reads = refl
+
 -- ---- rows
 
 at_row_filled : (id : Text) (change : Row → List Row) (missing rows : List Row)
-    → ((r : Row) → is_filled r ≡ true → filled (change r) ≡ true) → filled missing ≡ true → filled rows ≡ true
+    → ((r : Row) → bytes_eq r.id id ≡ true → is_filled r ≡ true → filled (change r) ≡ true) → filled missing ≡ true → filled rows ≡ true
     → filled (at_row id change missing rows) ≡ true
 at_row_filled id change missing [] changes new old = new
 at_row_filled id change missing (r ∷ rs) changes new old =
-    go (bytes_eq r.id id) (at_row_filled id change missing rs changes new (both (is_filled r) (filled rs) old).1)
+    go (bytes_eq r.id id) refl (at_row_filled id change missing rs changes new (both (is_filled r) (filled rs) old).1)
   where
-    go : (b : Bool) → filled (at_row id change missing rs) ≡ true → filled (cond b (change r ++ rs) (r ∷ at_row id change missing rs)) ≡ true
-    go true below = list_all-append is_filled (change r) rs
-        ∙ and _ _ (changes r (both (is_filled r) (filled rs) old).0) (both (is_filled r) (filled rs) old).1
-    go false below = and _ _ (both (is_filled r) (filled rs) old).0 below
+    go : (b : Bool) → bytes_eq r.id id ≡ b → filled (at_row id change missing rs) ≡ true → filled (cond b (change r ++ rs) (r ∷ at_row id change missing rs)) ≡ true
+    go true is below = list_all-append is_filled (change r) rs
+        ∙ and _ _ (changes r is (both (is_filled r) (filled rs) old).0) (both (is_filled r) (filled rs) old).1
+    go false is below = and _ _ (both (is_filled r) (filled rs) old).0 below
 
 without_filled : (id : Text) (rows : List Row) → filled rows ≡ true → filled (without id rows) ≡ true
-without_filled id rows e = at_row_filled id (λ _. []) [] rows (λ r here. refl) refl e
+without_filled id rows e = at_row_filled id (λ _. []) [] rows (λ r same here. refl) refl e
 
 more_filled : (xs ys : List Text) → has_some xs ≡ true → has_some (xs ++ ys) ≡ true
 more_filled [] ys e = absurd (true≢false (sym e))
 more_filled (x ∷ xs) ys e = refl
 
-with_values_filled : (id : Text) (how : Reading) (s : ValueSource) (v : Text) (vs : List Text) (rows : List Row) → filled rows ≡ true
-    → filled (with_values id how s (v ∷ vs) rows) ≡ true
-with_values_filled id how s v vs rows e =
-    at_row_filled id (more_values s (v ∷ vs)) _ rows (λ r here. and _ _ (more_filled r.values (v ∷ vs) here) refl) refl e
+more_fit : (id : Text) (xs ys : List Text) → fits id xs ≡ true → fits id ys ≡ true → fits id (xs ++ ys) ≡ true
+more_fit id xs ys old new =
+    let before = both (has_some xs) _ old in
+    let after = both (has_some ys) _ new in
+    and _ _ (more_filled xs ys before.0) (go (is_number_id id) before.1 after.1)
+  where
+    go : (b : Bool) → (not b || list_all (accepts false unsigned_64) xs) ≡ true → (not b || list_all (accepts false unsigned_64) ys) ≡ true
+        → (not b || list_all (accepts false unsigned_64) (xs ++ ys)) ≡ true
+    go true old new = list_all-append (accepts false unsigned_64) xs ys ∙ and _ _ old new
+    go false old new = refl
+
+with_values_filled : (id : Text) (how : Reading) (s : ValueSource) (vs : List Text) (rows : List Row) → fits id vs ≡ true → filled rows ≡ true
+    → filled (with_values id how s vs rows) ≡ true
+with_values_filled id how s vs rows fit e =
+    at_row_filled id (more_values s vs) _ rows
+    (λ r same here. and _ _ (more_fit r.id r.values vs here (subst (λ t. fits t vs ≡ true) (sym ((bytes_eq-Decides r.id id).0 same)) fit)) refl)
+    (and _ _ fit refl) e
 
 used_filled : (again : Bool) (a : Rule) (vs : List Text) (rows : List Row) → wants_value a ≡ true → use_passes again a vs rows ≡ true
     → filled rows ≡ true → filled (used a vs rows) ≡ true
-used_filled again a [] rows wants e old = absurd (true≢false (sym wants ∙ ap not (both (nat_le (unwrap_or_range a.range).start_inclusive 0) _ e).0))
-used_filled again a (v ∷ vs) rows wants e old = go (action_of a)
+used_filled again a [] rows wants e old =
+    absurd (true≢false (sym (both (wants_some a) _ wants).0 ∙ ap not (both (nat_le (unwrap_or_range a.range).start_inclusive 0) _ e).0))
+used_filled again a (v ∷ vs) rows wants e old =
+    go (action_of a) (both (nat_le (length (v ∷ vs)) (most_values a)) _ (both (nat_le (unwrap_or_range a.range).start_inclusive (length (v ∷ vs))) _ e).1).1
   where
-    replaced : filled (with_values a.id (reading_by a) CommandLine (v ∷ vs) (without a.id rows)) ≡ true
-    replaced = with_values_filled a.id (reading_by a) CommandLine v vs (without a.id rows) (without_filled a.id rows old)
+    replaced : values_pass a (v ∷ vs) ≡ true → filled (with_values a.id (reading_by a) CommandLine (v ∷ vs) (without a.id rows)) ≡ true
+    replaced pass = with_values_filled a.id (reading_by a) CommandLine (v ∷ vs) (without a.id rows) (passed_fit a v vs wants pass) (without_filled a.id rows old)
 
-    go : (x : ArgAction) → filled (used_as x a.id (reading_by a) (v ∷ vs) rows) ≡ true
-    go action.Set = replaced
-    go action.SetTrue = replaced
-    go action.SetFalse = replaced
-    go action.Append = with_values_filled a.id (reading_by a) CommandLine v vs rows old
-    go action.Count = replaced
-    go action.Help = old
-    go action.HelpShort = old
-    go action.HelpLong = old
-    go action.Version = old
+    set : (not (has_row a.id rows) || again) && values_pass a (v ∷ vs) ≡ true → values_pass a (v ∷ vs) ≡ true
+    set e = (both (not (has_row a.id rows) || again) _ e).1
+
+    go : (x : ArgAction) → action_passes x again a (v ∷ vs) rows ≡ true → filled (used_as x a.id (reading_by a) (v ∷ vs) rows) ≡ true
+    go action.Set e = replaced (set e)
+    go action.SetTrue e = replaced (set e)
+    go action.SetFalse e = replaced (set e)
+    go action.Append e = with_values_filled a.id (reading_by a) CommandLine (v ∷ vs) rows (passed_fit a v vs wants e) old
+    go action.Count e = replaced e
+    go action.Help e = old
+    go action.HelpShort e = old
+    go action.HelpLong e = old
+    go action.Version e = old
 
 -- the first argument with a property, where each wants a value
 first_wants : (p : Rule → Bool) (c : List Rule) → list_all wants_value c ≡ true → option_map_or wants_value (find p c) true ≡ true
@@ -255,20 +331,22 @@ module _ (s : Shape) (wants : list_all wants_value s.rules ≡ true) where
 
 -- ---- after the walk
 
-default_filled : (a : Rule) (rows : List Row) → filled rows ≡ true → filled (with_default rows a) ≡ true
-default_filled a rows old = go (has_row a.id rows)
+default_filled : (a : Rule) (rows : List Row) → wants_value a ≡ true → filled rows ≡ true → filled (with_default rows a) ≡ true
+default_filled a rows wants old = go (has_row a.id rows)
   where
-    given : (vs : List Text) → filled (default_rows a.id (reading_by a) vs rows) ≡ true
-    given [] = old
-    given (v ∷ vs) = with_values_filled a.id (reading_by a) DefaultValue v vs rows old
+    none : (vs : List Text) → is_empty vs ≡ true → filled (default_rows a.id (reading_by a) vs rows) ≡ true
+    none [] e = old
+    none (v ∷ vs) e = let some : length (v ∷ vs) ≡ 0 = eqb-true (length (v ∷ vs)) 0 e in absurd (omega (arith, some))
 
     go : (b : Bool) → filled (cond b rows (default_rows a.id (reading_by a) a.defaults rows)) ≡ true
     go true = old
-    go false = given a.defaults
+    go false = none a.defaults (both (is_empty a.defaults) _ (both (wants_some a) _ wants).1).0
 
-defaults_filled : (c : List Rule) (rows : List Row) → filled rows ≡ true → filled (fold with_default rows c) ≡ true
-defaults_filled [] rows old = old
-defaults_filled (a ∷ c) rows old = defaults_filled c (with_default rows a) (default_filled a rows old)
+defaults_filled : (c : List Rule) (rows : List Row) → list_all wants_value c ≡ true → filled rows ≡ true → filled (fold with_default rows c) ≡ true
+defaults_filled [] rows wants old = old
+defaults_filled (a ∷ c) rows wants old =
+    let each = both (wants_value a) _ wants in
+    defaults_filled c (with_default rows a) each.1 (default_filled a rows each.0 old)
 
 -- what one level of a parse that passes leaves: each row has a value, and what is required has a row
 level_filled : (s : Shape) (words : List Text) → list_all wants_value s.rules ≡ true → level_passes s [] nothing_held words false ≡ true
@@ -277,25 +355,26 @@ level_filled s words wants e =
     let end = (walk s.rules [] nothing_held words).held in
     let p = both (walk_passes s [] (walk_from nothing_held) words) _ e in
     let q = both (settle_passes s.rules s.args_override_self end) _ p.1 in
-    defaults_filled s.rules (settled s.rules end).rows (settled_filled s.rules s.args_override_self wants end q.0 (walk_filled s wants [] (walk_from nothing_held) words p.0 refl))
+    defaults_filled s.rules (settled s.rules end).rows wants (settled_filled s.rules s.args_override_self wants end q.0 (walk_filled s wants [] (walk_from nothing_held) words p.0 refl))
 
--- a row that is found has a value
-row_filled : (p : Row → Bool) (rows : List Row) → filled rows ≡ true → option_map_or is_filled (find p rows) true ≡ true
+-- a row that is found has a value, and is one that was looked for
+row_filled : (p : Row → Bool) (rows : List Row) → filled rows ≡ true → option_map_or (λ r. p r && is_filled r) (find p rows) true ≡ true
 row_filled p [] e = refl
-row_filled p (r ∷ rows) e = go (p r) (row_filled p rows (both (is_filled r) _ e).1)
+row_filled p (r ∷ rows) e = go (p r) refl (row_filled p rows (both (is_filled r) _ e).1)
   where
-    go : (b : Bool) → option_map_or is_filled (find p rows) true ≡ true → option_map_or is_filled (cond b (Some r) (find p rows)) true ≡ true
-    go true below = (both (is_filled r) _ e).0
-    go false below = below
+    go : (b : Bool) → p r ≡ b → option_map_or (λ r. p r && is_filled r) (find p rows) true ≡ true
+        → option_map_or (λ r. p r && is_filled r) (cond b (Some r) (find p rows)) true ≡ true
+    go true is below = and _ _ is (both (is_filled r) _ e).0
+    go false is below = below
 
 -- what is given has a value
 pub given_values : (id : Text) (rows : List Row) → filled rows ≡ true → is_given id rows ≡ true → has_some (unwrap_or (all_of id rows) []) ≡ true
 given_values id rows e is = go (find (λ r. bytes_eq r.id id) rows) (row_filled _ rows e) is
   where
-    go : (o : Option Row) → option_map_or is_filled o true ≡ true → option_map_or (λ r. explicit_source r.source) o false ≡ true
+    go : (o : Option Row) → option_map_or (λ r. bytes_eq r.id id && is_filled r) o true ≡ true → option_map_or (λ r. explicit_source r.source) o false ≡ true
         → has_some (unwrap_or (option_map (λ r. r.values) o) []) ≡ true
     go None e is = absurd (true≢false (sym is))
-    go (Some r) e is = e
+    go (Some r) e is = (both (has_some r.values) _ (both (bytes_eq r.id id) _ e).1).0
 
 pub given_first : (id : Text) (rows : List Row) → filled rows ≡ true → is_given id rows ≡ true → is_some (first_of id rows) ≡ true
 given_first id rows e is = go (find (λ r. bytes_eq r.id id) rows) (row_filled _ rows e) is
@@ -304,10 +383,33 @@ given_first id rows e is = go (find (λ r. bytes_eq r.id id) rows) (row_filled _
     first [] e = absurd (true≢false (sym e))
     first (v ∷ vs) e = refl
 
-    go : (o : Option Row) → option_map_or is_filled o true ≡ true → option_map_or (λ r. explicit_source r.source) o false ≡ true
+    go : (o : Option Row) → option_map_or (λ r. bytes_eq r.id id && is_filled r) o true ≡ true → option_map_or (λ r. explicit_source r.source) o false ≡ true
         → is_some (option_and_then (λ r. slice_get r.values 0) o) ≡ true
     go None e is = absurd (true≢false (sym is))
-    go (Some r) e is = first r.values e
+    go (Some r) e is = first r.values (both (has_some r.values) _ (both (bytes_eq r.id id) _ e).1).0
+
+-- what is given of a number is one
+pub given_number : (id : Text) (rows : List Row) → filled rows ≡ true → is_number_id id ≡ true → is_given id rows ≡ true
+    → is_some (option_and_then number_read (first_of id rows)) ≡ true
+given_number id rows e of_number is = go (find (λ r. bytes_eq r.id id) rows) (row_filled _ rows e) is
+  where
+    first : (vs : List Text) → has_some vs ≡ true → list_all (accepts false unsigned_64) vs ≡ true → is_some (option_and_then number_read (slice_get vs 0)) ≡ true
+    first [] some e = absurd (true≢false (sym some))
+    first (v ∷ vs) some e = rw (both (accepts false unsigned_64 v) _ e).0 refl
+
+    read : (r : Row) → bytes_eq r.id id ≡ true → (not (is_number_id r.id) || list_all (accepts false unsigned_64) r.values) ≡ true
+        → list_all (accepts false unsigned_64) r.values ≡ true
+    read r same e =
+        let number : is_number_id r.id ≡ true = ap is_number_id ((bytes_eq-Decides r.id id).0 same) ∙ of_number in
+        sym (ap (λ b. not b || list_all (accepts false unsigned_64) r.values) number) ∙ e
+
+    go : (o : Option Row) → option_map_or (λ r. bytes_eq r.id id && is_filled r) o true ≡ true → option_map_or (λ r. explicit_source r.source) o false ≡ true
+        → is_some (option_and_then number_read (option_and_then (λ r. slice_get r.values 0) o)) ≡ true
+    go None e is = absurd (true≢false (sym is))
+    go (Some r) e is =
+        let found = both (bytes_eq r.id id) _ e in
+        let values = both (has_some r.values) _ found.1 in
+        first r.values values.0 (read r found.0 values.1)
 
 -- ---- the commands
 
@@ -328,6 +430,7 @@ rules_want Unpack = refl
 rules_want Send = refl
 rules_want Relay = refl
 rules_want Recv = refl
+rules_want Sim = refl
 
 level_of : (command : Command) (words : List Text) → takes (app_for command) words ≡ true
     → level_passes (built (app_for command)).top [] nothing_held (argument_words (app_for command) words) false ≡ true

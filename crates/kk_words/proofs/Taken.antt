@@ -1,6 +1,6 @@
 -- Where clap finds no fault in the words, it takes them: the two tests of a simple command say the same, step by step.
-use Rattle.std.proofs.Common.{◌≡◌, ◌∙◌, ◌&&◌, ◌||◌, codes, ◌≤◌, ◌<◌, ℕ, zero, suc, Bool, true, false, cond, not, refl, sym, ap, ap₂, arith, List, [], ◌∷◌, map, length, Option, Some, None, Result, Err, nat_lt, true≢false, le-leb, lt-ltb, eqb-true, drop}
-use Rattle.std.specs.Prelude.{String, string_bytes, option_and_then, is_some, find, nat_le, ◌==◌, slice_get, encode_utf8}
+use Rattle.std.proofs.Common.{◌≡◌, ◌∙◌, ◌&&◌, ◌||◌, codes, ◌≤◌, ℕ, zero, suc, Bool, true, false, cond, not, refl, sym, ap, arith, List, [], ◌∷◌, map, length, Option, Some, None, Result, Err, nat_lt, true≢false, le-leb, eqb-true, drop}
+use Rattle.std.specs.Prelude.{String, string_bytes, option_and_then, is_some, nat_le, ◌==◌, slice_get, encode_utf8}
 use Rattle.std.proofs.lemmas.Bool.{ltb-false}
 use Rattle.std.specs.List.{list_all, list_any}
 use Rattle.std.specs.Str.{bytes_eq, chars}
@@ -8,22 +8,22 @@ use Rattle.clap.specs.Lexer.{long_of, short_of}
 use Rattle.std.specs.Option.{option_map_or}
 use Rattle.clap.specs.Facts.{parser_of_value, unwrap_or_range}
 use Rattle.clap.specs.ValueTests.{accepts}
-use Rattle.clap.specs.Walk.{Held, Names, Row, Rule, Step, Text, Waiting, Walk, action_of, arg_by_id, arg_by_index, arg_by_long, arg_by_short, attached_value, is_pending, takes_several, takes_values, has_row, most_values, nothing_held, reacted, settled, value, values_or_missing, walk, walk_from, walked, word_met, subcommand_met, finished}
+use Rattle.clap.specs.Walk.{Held, Names, Row, Rule, Step, Text, Walk, action_of, arg_by_id, arg_by_index, arg_by_long, arg_by_short, attached_value, is_pending, takes_several, takes_values, has_row, most_values, nothing_held, reacted, settled, value, values_or_missing, walk, walk_from, walked, word_met, subcommand_met, finished}
 use Rattle.clap.specs.Walk.{next, trailing, subcommand}
-use Rattle.clap.specs.Simple.{App, Shape, argument_words, built, filled_from, is_simple, matches_of}
+use Rattle.clap.specs.Simple.{Shape, argument_words, built, filled_from, is_simple, matches_of}
 use Rattle.clap.proofs.FaultLemmas.{leaf_fault}
 use Rattle.clap.proofs.TakesLemmas.{leaf_takes}
 use Rattle.std.specs.declared.alloc.Global.{Global}
 use Rattle.kk_words.specs.declared.command.Command.{Command}
-use Rattle.kk_words.specs.declared.command.Command.TheVariants.{Plan, Pack, Unpack, Send, Relay, Recv}
+use Rattle.kk_words.specs.declared.command.Command.TheVariants.{Plan, Pack, Unpack, Send, Relay, Recv, Sim}
 use Rattle.kk_words.specs.Arguments.{rule_of_argument}
 use Rattle.kk_words.specs.Commands.{app_for, app_with, command_named, form_of, name_of}
 use Rattle.kk_words.specs.Request.{request_of, request_for, is_of_form, Request, matches_for, numbers_in, request_from, seed_in, texts_in}
 use Rattle.kk_words.specs.declared.fault.WordsFault.{WordsFault}
 use Rattle.kk_words.specs.declared.fault.WordsFault.TheVariants.{Alloc, Words}
-use Rattle.clap.specs.Takes.{action_passes, bundle_passes, bundle_step_passes, count_passes, default_passes, flag_word_passes, flags_pass, is_given, is_valid, level_passes, long_passes, option_passes, other_passes, positional_passes, react_passes, set_passes, settle_passes, short_passes, step_passes, takes, turn_passes, use_passes, value_passes, values_pass, walk_passes, word_passes}
-use Rattle.clap.specs.Faults.{action_fault, bundle_fault, bundle_step_fault, check_fault, count_fault, defaults_fault, fault_of, is_simple_and_free, flag_word_fault, flags_fault, level_fault, long_fault, option_fault, other_fault, positional_fault, react_fault, set_fault, settle_fault, short_fault, step_fault, turn_fault, use_fault, values_fault, walk_fault, word_fault}
-use Rattle.clap.specs.Kinds.{Kinds, or_else, range_kinds, value_kinds, values_kinds}
+use Rattle.clap.specs.Takes.{action_passes, bundle_passes, bundle_step_passes, count_passes, default_passes, flag_word_passes, flags_pass, is_given, level_passes, long_passes, option_passes, other_passes, positional_passes, react_passes, set_passes, settle_passes, short_passes, step_passes, takes, turn_passes, use_passes, walk_passes, word_passes}
+use Rattle.clap.specs.Faults.{action_fault, bundle_fault, bundle_step_fault, check_fault, count_fault, defaults_fault, fault_of, is_simple_and_free, flag_word_fault, flags_fault, level_fault, long_fault, option_fault, other_fault, positional_fault, react_fault, set_fault, settle_fault, short_fault, step_fault, turn_fault, use_fault, walk_fault, word_fault}
+use Rattle.clap.specs.Kinds.{Kinds, or_else, range_kinds, values_kinds}
 use Rattle.clap.specs.declared.builder.action.ArgAction.{ArgAction}
 use Rattle.clap.specs.declared.builder.action.ArgAction.TheVariants as action
 use Rattle.clap.specs.declared.error.kind.ErrorKind.{ErrorKind}
@@ -281,6 +281,7 @@ free_rules Unpack = refl
 free_rules Send = refl
 free_rules Relay = refl
 free_rules Recv = refl
+free_rules Sim = refl
 
 free_defaults : (command : Command) → list_all default_passes (filled_from 1 (map rule_of_argument (form_of command))) ≡ true
 free_defaults Plan = refl
@@ -289,6 +290,7 @@ free_defaults Unpack = refl
 free_defaults Send = refl
 free_defaults Relay = refl
 free_defaults Recv = refl
+free_defaults Sim = refl
 
 pub simple_and_free : (command : Command) → is_simple_and_free (app_for command) ≡ true
 simple_and_free Plan = refl
@@ -297,6 +299,7 @@ simple_and_free Unpack = refl
 simple_and_free Send = refl
 simple_and_free Relay = refl
 simple_and_free Recv = refl
+simple_and_free Sim = refl
 
 pub simple : (command : Command) → is_simple (app_for command) ≡ true
 simple Plan = refl
@@ -305,6 +308,7 @@ simple Unpack = refl
 simple Send = refl
 simple Relay = refl
 simple Recv = refl
+simple Sim = refl
 
 -- where clap finds no fault in the words, it takes them
 pub taken : (command : Command) (words : List Text) → fault_of (app_for command) words ≡ [] → takes (app_for command) words ≡ true

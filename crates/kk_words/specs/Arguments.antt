@@ -25,7 +25,7 @@ text_of_word word.Ticket = codes "TICKET"
 text_of_word word.Target = codes "TARGET"
 text_of_word word.Listen = codes "LISTEN"
 
--- the long name of an option
+-- the long name of an option with a number, or the name of a word that is a number
 abbrev pub text_of_name : Name → List ℕ
 text_of_name name.Extra = codes "extra"
 text_of_name name.Pack = codes "pack"
@@ -33,12 +33,15 @@ text_of_name name.Rate = codes "rate"
 text_of_name name.Idle = codes "idle"
 text_of_name name.Most = codes "most"
 text_of_name name.Tolerate = codes "tolerate"
+text_of_name name.Erase = codes "erase"
+text_of_name name.Inject = codes "inject"
+text_of_name name.Gates = codes "gates"
 
 -- the long name of the option of a seed
 abbrev pub seed_name : List ℕ
 seed_name = codes "seed"
 
--- the number of an option that is left out, where it has one then
+-- the number where none is given, if there is one then
 abbrev pub default_of : Name → Option ℕ
 default_of name.Extra = Some 0
 default_of name.Pack = Some 32
@@ -46,6 +49,9 @@ default_of name.Rate = Some 1
 default_of name.Idle = Some 300
 default_of name.Most = Some 10000000
 default_of name.Tolerate = None
+default_of name.Erase = None
+default_of name.Inject = None
+default_of name.Gates = None
 
 -- the reader of an unsigned 64-bit number
 abbrev pub unsigned_64 : ValueParser
@@ -57,13 +63,15 @@ id_of (argument.Word w) = text_of_word w
 id_of (argument.Words w) = text_of_word w
 id_of argument.Seed = seed_name
 id_of (argument.Number n) = text_of_name n
+id_of (argument.Place n) = text_of_name n
 
 -- one value or more
 abbrev pub one_or_more : ValueRange
 one_or_more = record { start_inclusive = 1; end_inclusive = usize_max }
 
--- A word is required and stands at a place of its own; the last may stand several times. An option has a long name, no
--- short one, the action Set and one value: the text of a seed, which is required, or a number, which may be left out.
+-- A word is required and stands at a place of its own: a text or a number; the last may stand several times. An option has
+-- a long name, no short one, the action Set and one value: the text of a seed, which is required, or a number, which may be
+-- left out.
 abbrev pub rule_of_argument : Argument → Rule
 rule_of_argument (argument.Word w) = record (new_rule (text_of_word w)) { required = true }
 rule_of_argument (argument.Words w) = record (new_rule (text_of_word w)) { required = true; range = Some one_or_more }
@@ -77,3 +85,4 @@ rule_of_argument (argument.Number n) = record (new_rule (text_of_name n)) {
   action = Some Set;
   parser = Some unsigned_64;
 }
+rule_of_argument (argument.Place n) = record (new_rule (text_of_name n)) { required = true; parser = Some unsigned_64 }

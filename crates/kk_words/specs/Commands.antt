@@ -1,18 +1,18 @@
 -- The commands, and the form of each.
-use Rattle.std.specs.Prelude.{ℕ, List, [], ◌∷◌, Option, Bool, true, codes, find, map}
+use Rattle.std.specs.Prelude.{List, [], ◌∷◌, Option, true, codes, find, map}
 use Rattle.std.specs.Str.{bytes_eq}
 use Rattle.clap.specs.Walk.{Rule, Text}
-use Rattle.clap.specs.Simple.{App, Shape, new_shape}
+use Rattle.clap.specs.Simple.{App, new_shape}
 use Rattle.kk_words.specs.declared.argument.Argument.{Argument}
 use Rattle.kk_words.specs.declared.argument.Argument.TheVariants as argument
 use Rattle.kk_words.specs.declared.argument.Word.TheVariants as word
 use Rattle.kk_words.specs.declared.argument.Name.TheVariants as name
 use Rattle.kk_words.specs.declared.command.Command.{Command}
-use Rattle.kk_words.specs.declared.command.Command.TheVariants.{Plan, Pack, Unpack, Send, Relay, Recv}
+use Rattle.kk_words.specs.declared.command.Command.TheVariants.{Plan, Pack, Unpack, Send, Relay, Recv, Sim}
 use Rattle.kk_words.specs.Arguments.{rule_of_argument}
 
 abbrev pub commands : List Command
-commands = Plan ∷ Pack ∷ Unpack ∷ Send ∷ Relay ∷ Recv ∷ []
+commands = Plan ∷ Pack ∷ Unpack ∷ Send ∷ Relay ∷ Recv ∷ Sim ∷ []
 
 -- the first word of a command
 abbrev pub name_of : Command → Text
@@ -22,6 +22,7 @@ name_of Unpack = codes "unpack"
 name_of Send = codes "send"
 name_of Relay = codes "relay"
 name_of Recv = codes "recv"
+name_of Sim = codes "sim"
 
 -- the command that a first word names
 abbrev pub command_named : Text → Option Command
@@ -38,6 +39,7 @@ form_of Relay = argument.Word word.Ticket ∷ argument.Word word.Target ∷ argu
     ∷ argument.Number name.Rate ∷ argument.Number name.Idle ∷ argument.Number name.Most ∷ []
 form_of Recv = argument.Word word.Ticket ∷ argument.Words word.Listen
     ∷ argument.Number name.Idle ∷ argument.Number name.Most ∷ argument.Number name.Tolerate ∷ []
+form_of Sim = argument.Word word.Ticket ∷ argument.Place name.Erase ∷ argument.Place name.Inject ∷ argument.Place name.Gates ∷ argument.Seed ∷ []
 
 -- clap's simple command of a name and arguments, without the options --help and --version, and with nothing else set
 abbrev pub app_with : Text → List Rule → App

@@ -1,5 +1,5 @@
 -- What words ask for.
-use Rattle.std.specs.Prelude.{◌≡◌, ◌≤◌, ℕ, Bool, true, false, List, [], ◌∷◌, Option, Some, None, if◌then◌else◌, codes, find, option_map, option_and_then, unwrap_or}
+use Rattle.std.specs.Prelude.{◌≡◌, ◌≤◌, ℕ, Bool, true, false, List, [], ◌∷◌, Option, Some, None, if◌then◌else◌, find, option_map, option_and_then, unwrap_or}
 use Rattle.std.specs.List.{filter_map, flat_map, list_any}
 use Rattle.std.specs.Str.Parse.{digits_value, without_leading_plus}
 use Rattle.clap.specs.Walk.{Row, Text, all_of, first_of}
@@ -7,10 +7,10 @@ use Rattle.clap.specs.Simple.{matches_of}
 use Rattle.clap.specs.Takes.{takes}
 use Rattle.clap.specs.ValueTests.{accepts}
 use Rattle.kk_words.specs.declared.argument.Argument.{Argument}
-use Rattle.kk_words.specs.declared.argument.Argument.TheVariants.{Word, Words, Seed, Number}
+use Rattle.kk_words.specs.declared.argument.Argument.TheVariants.{Word, Words, Seed, Number, Place}
 use Rattle.kk_words.specs.declared.argument.Word.{Word as TheWord}
 use Rattle.kk_words.specs.declared.argument.Name.{Name}
-use Rattle.kk_words.specs.declared.argument.Name.TheVariants.{Extra, Pack as FramesOfDatagram, Rate, Idle, Most, Tolerate}
+use Rattle.kk_words.specs.declared.argument.Name.TheVariants.{Extra, Pack as FramesOfDatagram, Rate, Idle, Most, Tolerate, Erase, Inject, Gates}
 use Rattle.kk_words.specs.declared.command.Command.{Command}
 use Rattle.kk_words.specs.declared.command.Command.TheVariants as command
 use Rattle.kk_words.specs.Arguments.{default_of, seed_name, text_of_name, text_of_word, unsigned_64}
@@ -40,6 +40,7 @@ texts_at rows (Word w) = text_at rows w ∷ []
 texts_at rows (Words w) = all_texts_at rows w
 texts_at rows Seed = []
 texts_at rows (Number n) = []
+texts_at rows (Place n) = []
 
 -- the texts that were given for the words of a form, in its order
 abbrev pub texts_in : List Argument → List Row → List Text
@@ -66,6 +67,7 @@ numbers_at rows (Word w) = None
 numbers_at rows (Words w) = None
 numbers_at rows Seed = None
 numbers_at rows (Number n) = option_map (λ number. (n, number)) (number_at rows n)
+numbers_at rows (Place n) = option_map (λ number. (n, number)) (number_at rows n)
 
 -- the numbers of a form, each under its name
 abbrev pub numbers_in : List Argument → List Row → List (Name × ℕ)
@@ -78,11 +80,19 @@ is_name Rate Rate = true
 is_name Idle Idle = true
 is_name Most Most = true
 is_name Tolerate Tolerate = true
+is_name Erase Erase = true
+is_name Inject Inject = true
+is_name Gates Gates = true
 is_name m n = false
 
 abbrev pub is_number : Name → Argument → Bool
 is_number n (Number m) = is_name m n
+is_number n (Place m) = is_name m n
 is_number n other = false
+
+abbrev pub is_place : Name → Argument → Bool
+is_place n (Place m) = is_name m n
+is_place n other = false
 
 abbrev pub is_seed : Argument → Bool
 is_seed Seed = true
@@ -92,11 +102,15 @@ is_seed other = false
 abbrev pub has_number : Command → Name → Bool
 has_number command n = list_any (is_number n) (form_of command)
 
+-- a command has this number as a word at a place of its own
+abbrev pub has_place : Command → Name → Bool
+has_place command n = list_any (is_place n) (form_of command)
+
 -- a command has a seed
 abbrev pub has_seed : Command → Bool
 has_seed command = list_any is_seed (form_of command)
 
--- how many texts a command has: one of each word, and one or more of a word that may stand several times
+-- how many texts a command has: one of each word that is a text, and one or more of a word that may stand several times
 abbrev pub HasTexts : Command → ℕ → Type 0
 HasTexts command.Plan n = n ≡ 5
 HasTexts command.Pack n = n ≡ 1
@@ -104,6 +118,7 @@ HasTexts command.Unpack n = n ≡ 1
 HasTexts command.Send n = n ≡ 2
 HasTexts command.Relay n = n ≡ 3
 HasTexts command.Recv n = 2 ≤ n
+HasTexts command.Sim n = n ≡ 1
 
 -- the request for a command that these matches make
 unfoldable pub request_from : Command → List Row → Request

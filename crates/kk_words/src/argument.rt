@@ -40,7 +40,7 @@ impl Word {
     }
 }
 
-/// A number that a command may be given, by the option `--name N`.
+/// A number that a command may be given: by the option `--name N`, or as a word at a place of its own.
 #[derive(Clone, Copy, Debug, PartialEq, Eq)]
 pub enum Name {
     /// How many combinations of a generation's rows are sent after the rows themselves.
@@ -55,10 +55,16 @@ pub enum Name {
     Most,
     /// How many injected dimensions of each generation are tolerated.
     Tolerate,
+    /// How many dimensions of each codeword a channel erases.
+    Erase,
+    /// How many dimensions a channel injects into each codeword.
+    Inject,
+    /// How many gates the frames are dealt over.
+    Gates,
 }
 
 impl Name {
-    /// The long name of the option.
+    /// The long name of the option, or the name of the word.
     pub(crate) fn text(self) -> &'static str
         ensures { result.now ≡ text_of_name self }
     {
@@ -69,6 +75,9 @@ impl Name {
             Name::Idle => "idle",
             Name::Most => "most",
             Name::Tolerate => "tolerate",
+            Name::Erase => "erase",
+            Name::Inject => "inject",
+            Name::Gates => "gates",
         }
     }
 
@@ -82,7 +91,7 @@ impl Name {
             Name::Rate => Some(1),
             Name::Idle => Some(300),
             Name::Most => Some(10_000_000),
-            Name::Tolerate => None,
+            Name::Tolerate | Name::Erase | Name::Inject | Name::Gates => None,
         }
     }
 }
@@ -98,6 +107,8 @@ pub(crate) enum Argument {
     Seed,
     /// An option with a number, which may be left out.
     Number(Name),
+    /// A required word that is a number.
+    Place(Name),
 }
 
 impl Argument {
@@ -116,6 +127,7 @@ impl Argument {
                 .long(id)
                 .action(ArgAction::Set)
                 .value_parser(value_parser!(u64)),
+            Argument::Place(_) => argument.required(true).value_parser(value_parser!(u64)),
         }
     }
 
@@ -126,7 +138,7 @@ impl Argument {
         match self {
             Argument::Word(word) | Argument::Words(word) => word.text(),
             Argument::Seed => SEED,
-            Argument::Number(name) => name.text(),
+            Argument::Number(name) | Argument::Place(name) => name.text(),
         }
     }
 }

@@ -1,6 +1,6 @@
 //! What words ask for.
 ghost use Rattle.std.specs.Prelude.{◌≡◌, ◌<◌, length, option_map, slice_get, Some};
-ghost use Rattle.kk_words.specs.Request.{number_of};
+ghost use Rattle.kk_words.specs.Request.{is_name, number_of};
 
 use crate::{Command, Name};
 use std::marker::Model;
@@ -89,7 +89,11 @@ impl Asked {
     pub fn number(&self, name: Name) -> Option<u64>
         ensures { result ≡ number_of self.now.numbers name }
     {
-        let (_, number) = self.numbers.iter().find(|entry| entry.0 == name)?;
+        let (_, number) = self.numbers.iter().find(
+            |entry|
+                ensures { result ≡ is_name entry.now.now.0 name }
+            { entry.0 == name },
+        )?;
         Some(*number)
     }
 }

@@ -13,6 +13,7 @@ pub enum Command {
     Send,
     Relay,
     Recv,
+    Sim,
 }
 
 /// A session, the code's parameters, and nothing on the file, whose length the source tells.
@@ -55,6 +56,15 @@ const RECV: [Argument; 5] = [
     Argument::Number(Name::Tolerate),
 ];
 
+/// What a channel does to each generation, and how many gates hear it.
+const SIM: [Argument; 5] = [
+    Argument::Word(Word::Ticket),
+    Argument::Place(Name::Erase),
+    Argument::Place(Name::Inject),
+    Argument::Place(Name::Gates),
+    Argument::Seed,
+];
+
 impl Command {
     /// The command that a first word names.
     pub fn named(name: &str) -> Option<Command>
@@ -67,6 +77,7 @@ impl Command {
             "send" => Some(Command::Send),
             "relay" => Some(Command::Relay),
             "recv" => Some(Command::Recv),
+            "sim" => Some(Command::Sim),
             _ => None,
         }
     }
@@ -82,6 +93,7 @@ impl Command {
             Command::Send => "send",
             Command::Relay => "relay",
             Command::Recv => "recv",
+            Command::Sim => "sim",
         }
     }
 
@@ -96,6 +108,7 @@ impl Command {
             Command::Send => &SEND,
             Command::Relay => &RELAY,
             Command::Recv => &RECV,
+            Command::Sim => &SIM,
         }
     }
 }

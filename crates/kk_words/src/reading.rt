@@ -5,7 +5,7 @@ ghost use Rattle.clap.specs.Walk.{rows_of};
 ghost use Rattle.clap.specs.Simple.{app_of};
 ghost use Rattle.kk_words.specs.Arguments.{default_of};
 ghost use Rattle.kk_words.specs.Commands.{app_for};
-ghost use Rattle.kk_words.specs.Request.{HasTexts, all_texts_at, has_number, has_seed, number_at, number_given, number_of, numbers_in, request_of, seed_in, text_at, texts_in};
+ghost use Rattle.kk_words.specs.Request.{HasTexts, all_texts_at, has_number, has_place, has_seed, number_at, number_given, number_of, numbers_in, request_of, seed_in, text_at, texts_in};
 
 use crate::argument::{Argument, Name, SEED, Word};
 use crate::fault::fault_of;
@@ -20,10 +20,12 @@ pub fn read_words(alloc: Global, words: &[String]) -> Result<Asked, WordsFault>
     ensures given { IfOk result (λ given. request_of (map string_bytes words.now) ≡ Some given) }
     ensures refused { result ≡ Err WordsFault.Words → request_of (map string_bytes words.now) ≡ None }
 
-    // Each word of the command's form has a text; its seed is there, and each of its numbers that has a default.
+    // Each word of the command's form has a text; its seed is there, and so is each of its numbers that has a default or a
+    // place of its own.
     ensures texts { IfOk result (λ given. HasTexts given.command (length given.texts)) }
     ensures seed { IfOk result (λ given. IsTrue (has_seed given.command) → IsSome given.seed) }
     ensures numbers { IfOk result (λ given. (name : Name) → IsTrue (is_some (default_of name)) → IsTrue (has_number given.command name) → IsSome (number_of given.numbers name)) }
+    ensures placed { IfOk result (λ given. (name : Name) → IsTrue (has_place given.command name) → IsSome (number_of given.numbers name)) }
 {
     let Some(first) = words.first() else {
         return Err(WordsFault::Words);
@@ -121,7 +123,7 @@ fn numbers_in(
 {
     let mut numbers = Vec::new(alloc);
     for argument in form {
-        if let Argument::Number(name) = argument {
+        if let Argument::Number(name) | Argument::Place(name) = argument {
             if let Some(number) = number_at(*name, matches) {
                 numbers.push((*name, number))?;
             }

@@ -250,6 +250,60 @@ fn recv(rt: HostRuntime) -> Result<(), Fail> {
     )
 }
 
+/// What the words of a line ask of `sim`: how much is erased and injected, for how many gates, the seed, and the texts.
+fn told_of_sim(alloc: Global, line: &str) -> Result<String, Fail> {
+    let words = words_of(alloc, line)?;
+    let asked = match read_words(alloc, &words) {
+        Ok(asked) => asked,
+        Err(fault) => return Ok(format!(in alloc; "{fault:?}")?),
+    };
+    let mut text = format!(in alloc;
+        "{:?} {:?} {:?} {:?}",
+        asked.number(Name::Erase),
+        asked.number(Name::Inject),
+        asked.number(Name::Gates),
+        asked.seed()
+    )?;
+    for i in 0..asked.texts() {
+        text.push_str(" ")?;
+        text.push_str(asked.text(i))?;
+    }
+    Ok(text)
+}
+
+#[test]
+fn sim(rt: HostRuntime) -> Result<(), Fail> {
+    for (line, asked) in [
+        (
+            "sim T 4 0 16 --seed 00",
+            "Some(4) Some(0) Some(16) Some(\"00\") T",
+        ),
+        (
+            "sim --seed=00 T +4 -- 005 18446744073709551615",
+            "Some(4) Some(5) Some(18446744073709551615) Some(\"00\") T",
+        ),
+        // Each of the last three words is a number, and none may be missing.
+        ("sim T 4 x 16 --seed 00", "Words"),
+        ("sim T 4 4 18446744073709551616 --seed 00", "Words"),
+        ("sim T  4 4 --seed 00", "Words"),
+        ("sim T 4 4 -- -1 --seed 00", "Words"),
+        ("sim T 4 4 --seed 00", "Words"),
+        ("sim T 4 4 4 4 --seed 00", "Words"),
+        ("sim T 4 4 4", "Words"),
+        ("sim T 4 4 4 --seed 00 --most 5", "Words"),
+        ("sim T 4 4 --gates 4 --seed 00", "Words"),
+        // The ticket's word is any text.
+        (
+            "sim 1 2 3 4 --seed 00",
+            "Some(2) Some(3) Some(4) Some(\"00\") 1",
+        ),
+    ] {
+        let told = told_of_sim(rt.alloc(), line)?;
+        assert_eq!(rt; told.as_str(), asked, "{line}");
+    }
+    Ok(())
+}
+
 #[test]
 fn no_words(rt: HostRuntime) -> Result<(), Fail> {
     let none = Vec::new(rt.alloc());

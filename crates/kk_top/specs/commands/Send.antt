@@ -3,7 +3,6 @@ use Rattle.std.specs.Prelude.{◌≡◌, ◌↔◌, ◌⊎◌, ℕ, ◌+◌, nat
 use Rattle.std.specs.Fmt.{decimal}
 use Rattle.kk_outside.specs.Causes.{CanCount}
 use Rattle.kk_outside.specs.Change.{Change}
-use Rattle.kk_outside.specs.Generator.{word_at}
 use Rattle.kk_outside.specs.Source.{SourceTold, SourceFailed, bytes_read}
 use Rattle.kk_outside.specs.Sink.{SinkTold, SinkFailed, WasGiven}
 use Rattle.kk_outside.specs.Outlet.{OutletTold, OutletFailed, append_datagrams}
@@ -23,7 +22,7 @@ use Rattle.kk_top.specs.declared.refusal.Refusal.TheVariants.{Words, Ticket, See
 use Rattle.kk_top.specs.Command.{EndedAtOnce, RanThrough}
 use Rattle.kk_top.specs.Refusal.{IsRefused}
 use Rattle.kk_top.specs.Report.{concluded_text}
-use Rattle.kk_top.specs.Seed.{seed_of, stream_with}
+use Rattle.kk_top.specs.Seed.{seed_of, words_of}
 use Rattle.kk_top.specs.TicketWord.{NamesNoTicketFor}
 use Rattle.kk_top.specs.Words.{IsRequestFor, AsksNothingOf}
 
@@ -79,10 +78,6 @@ IsRefusedFor words Listen = ⊥
 IsRefusedFor words Memory = Unit {0}
 
 -- ---- the datagrams
-
--- the words of the generator ChaCha20 with this seed
-abbrev pub words_of : Option (List ℕ) → ℕ → ℕ
-words_of seed = word_at (stream_with seed)
 
 -- what is sent of a file by an order
 unfoldable pub ordered_datagrams : Order → List ℕ → List (List ℕ)

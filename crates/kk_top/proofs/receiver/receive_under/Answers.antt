@@ -1,4 +1,4 @@
-use Rattle.std.proofs.Common.{◌∙◌, ◌++◌, ◌∷◌, [], ℕ, List, Option, sym, ap, subst}
+use Rattle.std.proofs.Common.{◌∙◌, ◌++◌, ◌∷◌, [], ℕ, List, Option, ap, subst}
 use Rattle.kk_outside.specs.Change.{change}
 use Rattle.kk_outside.specs.Sink.{WasGiven}
 use Rattle.kk_table.specs.Logs.{LogsView}

@@ -1,11 +1,11 @@
-use Rattle.std.proofs.Common.{◌≡◌, ◌∙◌, ap, ap₂, sym, map, take, ◌+◌, List, [], ◌∷◌, ◌++◌, get_or}
+use Rattle.std.proofs.Common.{◌∙◌, ap, ap₂, sym, map, take, ◌+◌, List, [], ◌∷◌, ◌++◌, get_or}
 use Rattle.kk_words.specs.declared.argument.Argument.{Argument}
 use Rattle.kk_words.specs.declared.argument.Argument.TheVariants.{Word}
 use Rattle.kk_words.specs.declared.argument.Word.TheVariants.{Session}
 use Rattle.clap.specs.Simple.{with_rule}
 use Rattle.std.proofs.lemmas.List.{map_more}
 use Rattle.kk_words.specs.Arguments.{rule_of_argument}
-use Rattle.kk_words.specs.Commands.{app_with, form_of, name_of}
+use Rattle.kk_words.specs.Commands.{app_with, name_of}
 use Rattle.kk_words.proofs.reading.clap_command.Goals as goal
 
 pub loop-argument-preserved : goal.loop-argument-preserved

@@ -1,4 +1,4 @@
-use Rattle.std.proofs.Common.{◌≡◌, ◌∙◌, ap, ap₂, sym, subst, Some, None, Option, map, List, [], ℕ, is_some, length}
+use Rattle.std.proofs.Common.{◌≡◌, ◌∙◌, ap, ap₂, sym, subst, Some, map, List, [], ℕ, is_some, length}
 use Rattle.std.specs.List.{list_any}
 use Rattle.std.specs.Prelude.{option_and_then, string_bytes}
 use Rattle.clap.specs.Matches.{found_of}
@@ -7,11 +7,11 @@ use Rattle.clap.specs.Simple.{App, is_simple, matches_of}
 use Rattle.clap.specs.Takes.{takes}
 use Rattle.clap.specs.Faults.{fault_of, is_simple_and_free}
 use Rattle.kk_words.specs.declared.command.Command.{Command}
-use Rattle.kk_words.specs.Commands.{app_for, command_named, form_of}
-use Rattle.kk_words.specs.Request.{HasTexts, has_seed, request_for, is_number, number_of, numbers_in, seed_in, texts_in}
+use Rattle.kk_words.specs.Commands.{app_for, form_of}
+use Rattle.kk_words.specs.Request.{HasTexts, has_place, has_seed, request_for, is_number, number_of, numbers_in, seed_in, texts_in}
 use Rattle.kk_words.specs.declared.argument.Argument.{Argument}
 use Rattle.kk_words.specs.declared.argument.Name.{Name}
-use Rattle.kk_words.proofs.Matches.{numbers_there, seed_there, texts_there}
+use Rattle.kk_words.proofs.Matches.{by_default, numbers_there, place_there, seed_there, texts_there}
 use Rattle.kk_words.proofs.Taken.{request_of_first, request_of_none, request_for-refused, request_for-taken, never_words, request_from-parts, simple, simple_and_free, taken}
 use Rattle.kk_words.proofs.reading.read_words.Goals as goal
 
@@ -53,7 +53,7 @@ returns-clause-numbers c = λ name default has.
     let form = c.form-form.result.now in
     let numbers = c.new.ensures.numbers ∙ c.in_ok-numbers.ensures in
     let in_form = ap (λ (a : List Argument). list_any (is_number name) a) (c.form-form.ensures ∙ ap form_of (sym c.new.ensures.command)) ∙ has in
-    ap (λ (ns : List (Name × ℕ)). is_some (number_of ns name)) numbers ∙ numbers_there form (rows_of (found_of c.in-Ok.matches)) name default in_form
+    ap (λ (ns : List (Name × ℕ)). is_some (number_of ns name)) numbers ∙ numbers_there form (rows_of (found_of c.in-Ok.matches)) name (by_default (rows_of (found_of c.in-Ok.matches)) name default) in_form
 
 pub returns-clause-texts : goal.returns-clause-texts
 returns-clause-texts c =
@@ -77,3 +77,15 @@ returns-clause-seed c =
     (c.in-Ok.ensures.matches (ap is_simple app ∙ simple command)).0 ∙ ap (λ (a : App). matches_of a words) app in
     let seed = c.new.ensures.seed ∙ c.in_ok-seed.ensures ∙ ap seed_in rows in
     λ has. ap is_some seed ∙ seed_there command words (taken command words none) (ap has_seed (sym c.new.ensures.command) ∙ has)
+
+pub returns-clause-placed : goal.returns-clause-placed
+returns-clause-placed c =
+    let words = map string_bytes c.args.words.now in
+    let command = c.in-Some-named.command in
+    let app = c.in_ok-app.ensures in
+    let none : fault_of (app_for command) words ≡ [] = subst (λ (a : App). fault_of a words ≡ []) app (c.in-Ok.ensures.kinds (ap is_simple_and_free app ∙ simple_and_free command)) in
+    let rows : rows_of (found_of c.in-Ok.matches) ≡ matches_of (app_for command) words =
+    (c.in-Ok.ensures.matches (ap is_simple app ∙ simple command)).0 ∙ ap (λ (a : App). matches_of a words) app in
+    let numbers = c.new.ensures.numbers ∙ c.in_ok-numbers.ensures ∙ ap₂ numbers_in c.form-form.ensures rows in
+    λ name has. ap (λ (ns : List (Name × ℕ)). is_some (number_of ns name)) numbers
+    ∙ place_there command words name (taken command words none) (ap (λ (k : Command). has_place k name) (sym c.new.ensures.command) ∙ has)

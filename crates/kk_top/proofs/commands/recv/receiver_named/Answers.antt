@@ -1,13 +1,11 @@
-use Rattle.std.proofs.Common.{◌≡◌, ◌+◌, ◌-◌, ◌<◌, ◌⊎◌, false, length, refl, sym, subst, ap, ◌∙◌, inl, inr, ℕ, Option, arith}
+use Rattle.std.proofs.Common.{◌≡◌, ◌+◌, ◌-◌, ◌<◌, ◌⊎◌, length, refl, sym, subst, ap, ◌∙◌, inl, inr, ℕ, Option, arith}
 use Rattle.std.proofs.lemmas.Result.{err_from_is_err_and}
 use Rattle.kk_words.specs.declared.argument.Name.TheVariants.{Idle, Most, Tolerate}
 use Rattle.kk_words.specs.Request.{number_of}
-use Rattle.kk_workers.specs.declared.plan.Plan.{Plan}
-use Rattle.kk_top.specs.declared.refusal.Refusal.{Refusal}
 use Rattle.kk_top.specs.declared.refusal.Refusal.TheVariants.{Range, Listen}
 use Rattle.kk_top.specs.declared.words.TheConstants.{MAX_IDLE, MAX_MOST}
 use Rattle.kk_top.specs.Command.{texts}
-use Rattle.kk_top.specs.commands.Recv.{IsRefusedFor, is_beyond}
+use Rattle.kk_top.specs.commands.Recv.{IsRefusedFor}
 use Rattle.kk_top.proofs.Recvs.{breaks, orders, order_of, broken_idle, broken_most, broken_tolerate, broken_listen, none_broken}
 use Rattle.kk_top.proofs.commands.recv.receiver_named.Goals as goal
 use Rattle.kk_top.proofs.commands.recv.receiver_named.Goals.{then-idle-lt1-via-then-idle-lt1, then-idle-lt1-via-else-idle-lt1+then-idle-gt-MAX_IDLE, then-most-lt1-via-then-most-lt1, then-most-lt1-via-else-most-lt1+then-most-gt-MAX_MOST}
