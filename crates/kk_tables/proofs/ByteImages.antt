@@ -65,7 +65,7 @@ residue_shift f h y k =
     ∙ ap (residue f) (product-pow y k)
 
 -- an entry of the same byte
-in_byte : (n w : ℕ) → w < 256 → byte_at (n - n % 256 + w) ≡ w * 2 ^ (8 * (n / 256))
+pub in_byte : (n w : ℕ) → w < 256 → byte_at (n - n % 256 + w) ≡ w * 2 ^ (8 * (n / 256))
 in_byte n w h =
     let e : n - n % 256 + w ≡ 256 * (n / 256) + w = omega arith in
     ap byte_at e ∙ byte_at-entry (n / 256) w h

@@ -1,3 +1,4 @@
 pub mod WindowProducts
 pub mod ByteImages
 pub mod Chains
+pub mod LookUps

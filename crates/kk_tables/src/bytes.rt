@@ -3,22 +3,23 @@ ghost use Rattle.std.specs.Prelude.{◌≡◌, ℕ, ◌*◌, ◌^◌, ◌<◌, �
 ghost use Rattle.kk_field.specs.Field.{residue};
 ghost use Rattle.kk_field.specs.Laws.{IsModulus};
 ghost use Rattle.kk_rows.specs.AdditiveMap.{IsAdditive};
-ghost use Rattle.kk_tables.specs.Tables.{IsTableOf, IsTableUpTo, DoublesBy, byte_at};
+ghost use Rattle.kk_tables.specs.Tables.{IsTableOf, IsTableUpTo, HasUnits, DoublesBy, byte_at, looked_up};
 ghost use Rattle.kk_tables.specs.declared.bytes.TheConstants.{ENTRIES};
 
 use kk_field::Ring;
 
 /// How many entries a table has: one for each value of each of 8 bytes.
-pub(crate) const ENTRIES: usize = 8 * 256;
+pub const ENTRIES: usize = 8 * 256;
 
 /// The image of `x`, which has at most `bytes` bytes, under the additive map of the table: the sum of the images of its
 /// bytes.
 #[inline(always)]
-pub(crate) fn image_of(table: &[u64], x: u64, bytes: usize) -> u64
+pub fn image_of(table: &[u64], x: u64, bytes: usize) -> u64
     requires long { length table.now ≡ ENTRIES }
     requires few { bytes ≤ 8 }
     requires x_below { x < 2 ^ (8 * bytes) }
-    ensures { (image : ℕ → ℕ) → IsAdditive image → IsTableOf image table.now → result ≡ image x }
+    ensures entries { result ≡ looked_up table.now bytes x }
+    ensures image { (image : ℕ → ℕ) → IsAdditive image → IsTableOf image table.now → result ≡ image x }
 {
     let mut sum = 0;
     let mut remaining = x;
@@ -100,5 +101,34 @@ pub(crate) fn make_table(table: &mut [u64], ring: &Ring, one: u64, times: u32)
 {
     for n in 0..ENTRIES {
         table[n] = entry(table, ring, one, times, n);
+    }
+}
+
+/// Entry n of [`make_table_of`]'s table, from those before it: the image of the highest bit of the byte, and that of the
+/// byte without it.
+fn entry_of(table: &[u64], units: &[u64], n: usize) -> u64
+    requires long { length table.now ≡ ENTRIES }
+    requires count { length units.now ≡ 64 }
+    requires within { n < ENTRIES }
+    ensures { (image : ℕ → ℕ) → IsAdditive image → HasUnits image units.now → IsTableUpTo image n table.now
+        → result ≡ image (byte_at n) }
+{
+    let v = n % 256;
+    if v == 0 {
+        return 0;
+    }
+    let top = v.ilog2() as usize;
+    units[8 * (n / 256) + top] ^ table[n - (1 << top)]
+}
+
+/// Makes the table of the additive map that takes 2^j to `units[j]`, for each bit j of a word.
+pub fn make_table_of(table: &mut [u64], units: &[u64])
+    requires long { length table.old ≡ ENTRIES }
+    requires count { length units.now ≡ 64 }
+    ensures long { length table.new ≡ ENTRIES }
+    ensures value { (image : ℕ → ℕ) → IsAdditive image → HasUnits image units.now → IsTableOf image table.new }
+{
+    for n in 0..ENTRIES {
+        table[n] = entry_of(table, units, n);
     }
 }

@@ -4,7 +4,7 @@
 
 pub use field_tables::FieldTables;
 
-mod bytes;
+pub mod bytes;
 mod field_tables;
 #[cfg(test)]
 mod tests;

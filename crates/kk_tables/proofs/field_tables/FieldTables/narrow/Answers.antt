@@ -21,7 +21,7 @@ returns-clause-value c =
     let h = c.self.invariant.1.modulus.low_below in
     let p = c.narrow_product-p.result in
     let enough : c.self.inside.m ≤ 8 * c.args.bytes = subst (λ f. f.degree ≤ 8 * c.args.bytes) (sym c.self.view_is) c.requires.enough in
-    let r : c.image_of.result ≡ reduction f (p / 2 ^ i.m) = c.image_of.ensures (reduction f) (IsAdditive-reduction f h) c.self.invariant.2 in
+    let r : c.image_of.result ≡ reduction f (p / 2 ^ i.m) = c.image_of.ensures.image (reduction f) (IsAdditive-reduction f h) c.self.invariant.2 in
     let within : i.m < 64 = omega (arith, enough, c.requires.at_most_4) in
     subst (λ f. bit_xor (p % (1 * 2 ^ i.m % 18446744073709551616)) c.image_of.result ≡ field_product f c.args.a c.args.b) c.self.view_is
     (rw (one_shl i.m 64 within) (two_parts f h c.args.a c.args.b p c.image_of.result c.narrow_product-p.ensures r).0)
@@ -33,7 +33,7 @@ returns-clause-below c =
     let h = c.self.invariant.1.modulus.low_below in
     let p = c.narrow_product-p.result in
     let enough : c.self.inside.m ≤ 8 * c.args.bytes = subst (λ f. f.degree ≤ 8 * c.args.bytes) (sym c.self.view_is) c.requires.enough in
-    let r : c.image_of.result ≡ reduction f (p / 2 ^ i.m) = c.image_of.ensures (reduction f) (IsAdditive-reduction f h) c.self.invariant.2 in
+    let r : c.image_of.result ≡ reduction f (p / 2 ^ i.m) = c.image_of.ensures.image (reduction f) (IsAdditive-reduction f h) c.self.invariant.2 in
     let within : i.m < 64 = omega (arith, enough, c.requires.at_most_4) in
     subst (λ f. bit_xor (p % (1 * 2 ^ i.m % 18446744073709551616)) c.image_of.result < 2 ^ f.degree) c.self.view_is
     (rw (one_shl i.m 64 within) (two_parts f h c.args.a c.args.b p c.image_of.result c.narrow_product-p.ensures r).1)

@@ -10,7 +10,7 @@ returns-then-self-le8-clause-value c =
     let i = c.self.inside in
     let f : Modulus = record { degree = i.m; low = i.low } in
     let h = c.self.invariant.1.modulus.low_below in
-    let value : c.image_of.result ≡ field_product f c.args.a c.args.a = c.image_of.ensures (squared f) (IsAdditive-squared f h) c.self.invariant.3 in
+    let value : c.image_of.result ≡ field_product f c.args.a c.args.a = c.image_of.ensures.image (squared f) (IsAdditive-squared f h) c.self.invariant.3 in
     subst (λ f. c.image_of.result ≡ field_product f c.args.a c.args.a) c.self.view_is value
 
 pub returns-then-self-le8-clause-below : goal.returns-then-self-le8-clause-below
@@ -18,7 +18,7 @@ returns-then-self-le8-clause-below c =
     let i = c.self.inside in
     let f : Modulus = record { degree = i.m; low = i.low } in
     let h = c.self.invariant.1.modulus.low_below in
-    let value : c.image_of.result ≡ field_product f c.args.a c.args.a = c.image_of.ensures (squared f) (IsAdditive-squared f h) c.self.invariant.3 in
+    let value : c.image_of.result ≡ field_product f c.args.a c.args.a = c.image_of.ensures.image (squared f) (IsAdditive-squared f h) c.self.invariant.3 in
     subst (λ f. c.image_of.result < 2 ^ f.degree) c.self.view_is (rw value (field_product-below f h c.args.a c.args.a))
 
 pub returns-then-self-le32-clause-value : goal.returns-then-self-le32-clause-value
@@ -26,7 +26,7 @@ returns-then-self-le32-clause-value c =
     let i = c.self.inside in
     let f : Modulus = record { degree = i.m; low = i.low } in
     let h = c.self.invariant.1.modulus.low_below in
-    let value : c.image_of-then-self-le32.result ≡ field_product f c.args.a c.args.a = c.image_of-then-self-le32.ensures (squared f) (IsAdditive-squared f h) c.self.invariant.3 in
+    let value : c.image_of-then-self-le32.result ≡ field_product f c.args.a c.args.a = c.image_of-then-self-le32.ensures.image (squared f) (IsAdditive-squared f h) c.self.invariant.3 in
     subst (λ f. c.image_of-then-self-le32.result ≡ field_product f c.args.a c.args.a) c.self.view_is value
 
 pub returns-then-self-le32-clause-below : goal.returns-then-self-le32-clause-below
@@ -34,7 +34,7 @@ returns-then-self-le32-clause-below c =
     let i = c.self.inside in
     let f : Modulus = record { degree = i.m; low = i.low } in
     let h = c.self.invariant.1.modulus.low_below in
-    let value : c.image_of-then-self-le32.result ≡ field_product f c.args.a c.args.a = c.image_of-then-self-le32.ensures (squared f) (IsAdditive-squared f h) c.self.invariant.3 in
+    let value : c.image_of-then-self-le32.result ≡ field_product f c.args.a c.args.a = c.image_of-then-self-le32.ensures.image (squared f) (IsAdditive-squared f h) c.self.invariant.3 in
     subst (λ f. c.image_of-then-self-le32.result < 2 ^ f.degree) c.self.view_is (rw value (field_product-below f h c.args.a c.args.a))
 
 pub returns-else-self-le32-clause-value : goal.returns-else-self-le32-clause-value
@@ -42,7 +42,7 @@ returns-else-self-le32-clause-value c =
     let i = c.self.inside in
     let f : Modulus = record { degree = i.m; low = i.low } in
     let h = c.self.invariant.1.modulus.low_below in
-    let value : c.image_of-else-self-le32.result ≡ field_product f c.args.a c.args.a = c.image_of-else-self-le32.ensures (squared f) (IsAdditive-squared f h) c.self.invariant.3 in
+    let value : c.image_of-else-self-le32.result ≡ field_product f c.args.a c.args.a = c.image_of-else-self-le32.ensures.image (squared f) (IsAdditive-squared f h) c.self.invariant.3 in
     subst (λ f. c.image_of-else-self-le32.result ≡ field_product f c.args.a c.args.a) c.self.view_is value
 
 pub returns-else-self-le32-clause-below : goal.returns-else-self-le32-clause-below
@@ -50,5 +50,5 @@ returns-else-self-le32-clause-below c =
     let i = c.self.inside in
     let f : Modulus = record { degree = i.m; low = i.low } in
     let h = c.self.invariant.1.modulus.low_below in
-    let value : c.image_of-else-self-le32.result ≡ field_product f c.args.a c.args.a = c.image_of-else-self-le32.ensures (squared f) (IsAdditive-squared f h) c.self.invariant.3 in
+    let value : c.image_of-else-self-le32.result ≡ field_product f c.args.a c.args.a = c.image_of-else-self-le32.ensures.image (squared f) (IsAdditive-squared f h) c.self.invariant.3 in
     subst (λ f. c.image_of-else-self-le32.result < 2 ^ f.degree) c.self.view_is (rw value (field_product-below f h c.args.a c.args.a))

@@ -25,7 +25,7 @@ returns-clause-value c =
     let f : Modulus = record { degree = i.m; low = i.low } in
     let h = c.self.invariant.1.modulus.low_below in
     let p = c.wide_product-p.result in
-    let r : c.image_of.result ≡ reduction f (p / 2 ^ i.m) = c.image_of.ensures (reduction f) (IsAdditive-reduction f h) c.self.invariant.2 in
+    let r : c.image_of.result ≡ reduction f (p / 2 ^ i.m) = c.image_of.ensures.image (reduction f) (IsAdditive-reduction f h) c.self.invariant.2 in
     let within : i.m < 128 = omega (arith, c.self.invariant.0) in
     subst (λ f. bit_xor (p % (1 * 2 ^ i.m % 340282366920938463463374607431768211456)) c.image_of.result ≡ field_product f c.args.a c.args.b) c.self.view_is
     (rw (one_shl i.m 128 within) (two_parts f h c.args.a c.args.b p c.image_of.result c.wide_product-p.ensures r).0)
@@ -36,7 +36,7 @@ returns-clause-below c =
     let f : Modulus = record { degree = i.m; low = i.low } in
     let h = c.self.invariant.1.modulus.low_below in
     let p = c.wide_product-p.result in
-    let r : c.image_of.result ≡ reduction f (p / 2 ^ i.m) = c.image_of.ensures (reduction f) (IsAdditive-reduction f h) c.self.invariant.2 in
+    let r : c.image_of.result ≡ reduction f (p / 2 ^ i.m) = c.image_of.ensures.image (reduction f) (IsAdditive-reduction f h) c.self.invariant.2 in
     let within : i.m < 128 = omega (arith, c.self.invariant.0) in
     subst (λ f. bit_xor (p % (1 * 2 ^ i.m % 340282366920938463463374607431768211456)) c.image_of.result < 2 ^ f.degree) c.self.view_is
     (rw (one_shl i.m 128 within) (two_parts f h c.args.a c.args.b p c.image_of.result c.wide_product-p.ensures r).1)
