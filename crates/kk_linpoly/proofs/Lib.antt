@@ -11,3 +11,4 @@ pub mod Roots
 pub mod Vanishings
 pub mod SumLaws
 pub mod Monomials
+pub mod LinMaps

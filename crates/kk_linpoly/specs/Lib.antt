@@ -1,4 +1,5 @@
 pub mod LinPoly
 pub mod LinPolyExamples
 pub mod Storage
+pub mod LinMap
 pub mod Laws

@@ -4,9 +4,11 @@
 //! polynomials", 1933).
 #![tactic(auto)]
 
+pub use lin_map::LinMap;
 pub use lin_poly::{LinPoly, MAX_COEFFICIENTS};
 
 pub mod laws;
+mod lin_map;
 mod lin_poly;
 mod places;
 #[cfg(test)]

@@ -1,7 +1,7 @@
 //! Worked values over GF(8) with the modulus X^3 + X + 1, where the powers of 2 are 1, 2, 4, 3, 6, 7, 5.
 ghost use Rattle.std.specs.Prelude.{◌≡◌, ◌<◌, IfSome};
 
-use crate::LinPoly;
+use crate::{LinMap, LinPoly};
 use kk_field::{Field, Ring, Steps};
 use kk_tables::FieldTables;
 use std::marker::Brand;
@@ -106,4 +106,56 @@ fn zeros_at_the_end_are_dropped(rt: HostRuntime) -> Result<(), Fail> {
 fn the_highest_degree_is_127(rt: HostRuntime) {
     let f = LinPoly::from_slice(&[1; 128]);
     assert_eq!(rt; f.degree(), Some(127));
+}
+
+/// What a new map takes 5 to, and the map of 6·X + 7·X^2 + X^4 the elements 1 to 4.
+fn of_the_map<L: Ledger>(blank: Blank) -> Option<(u64, [u64; 4])>
+    requires name { blank.name ≡ L.name }
+    requires parts { blank.parts ≡ L.parts }
+    requires some { 0 < blank.parts }
+{
+    let field = gf8()?;
+    let mut steps: Steps<L> = Steps::new(blank);
+    let mut map = LinMap::new();
+    let of_five = map.at(5);
+    map.load(&field, &LinPoly::from_slice(&[6, 7, 1]), &mut steps);
+    Some((of_five, [map.at(1), map.at(2), map.at(3), map.at(4)]))
+}
+
+#[test]
+fn the_map_is_zero_on_the_roots(rt: HostRuntime) -> Result<(), Fail> {
+    let (of_five, values) = of_the_map::<Brand>(Blank::new(1)).ok_or("reducible")?;
+    assert_eq!(rt; of_five, 0);
+    assert_eq!(rt; values, [0, 0, 0, 3]);
+    Ok(())
+}
+
+/// What the map of X takes `x` to in the field of degree 64, loaded after that of another field.
+fn of_the_identity<L: Ledger>(x: u64, blank: Blank) -> Option<u64>
+    requires name { blank.name ≡ L.name }
+    requires parts { blank.parts ≡ L.parts }
+    requires some { 0 < blank.parts }
+{
+    let small = gf8()?;
+    let ring = Ring::new(64, 0x1b);
+    if !ring.is_irreducible() {
+        return None;
+    }
+    let mut steps: Steps<L> = Steps::new(blank);
+    let mut map = LinMap::new();
+    map.load(&small, &LinPoly::from_slice(&[6, 7, 1]), &mut steps);
+    map.load(
+        &FieldTables::new(Field::of(ring)),
+        &LinPoly::from_slice(&[1]),
+        &mut steps,
+    );
+    Some(map.at(x))
+}
+
+#[test]
+fn the_map_takes_all_bytes(rt: HostRuntime) -> Result<(), Fail> {
+    for x in [1 << 63, 0xfedc_ba98_7654_3210, u64::MAX] {
+        assert_eq!(rt; of_the_identity::<Brand>(x, Blank::new(1)), Some(x));
+    }
+    Ok(())
 }
