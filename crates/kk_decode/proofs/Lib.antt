@@ -5,3 +5,5 @@ pub mod Reach
 pub mod Members
 pub mod Answering
 pub mod Losses
+pub mod Kernels
+pub mod Offsets

@@ -1,9 +1,10 @@
 -- The laws of losses, which the functions of `laws` prove.
-use Rattle.std.specs.Prelude.{◌≡◌, ◌+◌, ◌-◌, ◌*◌, ◌≤◌, ℕ, List, All, IsTrue}
+use Rattle.std.specs.Prelude.{◌≡◌, ◌+◌, ◌-◌, ◌*◌, ◌^◌, ◌<◌, ◌≤◌, ℕ, List, map, All, IsTrue}
 use Rattle.kk_rows.specs.Span.{in_span, dimension}
-use Rattle.kk_rows.specs.Distance.{distance}
-use Rattle.kk_code.specs.Codeword.{Parameters, IsCode, codeword}
+use Rattle.kk_rows.specs.Distance.{meet_dimension, distance}
+use Rattle.kk_code.specs.Codeword.{Parameters, IsCode, width, codeword}
 use Rattle.kk_code.specs.Decoding.{erased, injected}
+use Rattle.kk_decode.specs.Offset.{offset}
 
 -- the distance of a codeword from a space is what was erased and what was injected
 abbrev pub DistanceIsTheLoss : Type 0
@@ -16,3 +17,9 @@ abbrev pub PartIsWithinTheRadius : Type 0
 PartIsWithinTheRadius =
     (p : Parameters) → IsCode p → (part rows u : List ℕ) (t : ℕ) → All (λ r. IsTrue (in_span rows r)) part
     → injected p rows u ≤ t → p.k + 2 * t ≤ dimension part → distance (codeword p u) part ≤ p.l - p.k
+
+-- The dimension that a space has in common with the codeword of u is its own less that of the offsets of its rows.
+abbrev pub MeetByOffsets : Type 0
+MeetByOffsets =
+    (p : Parameters) → IsCode p → (rows u : List ℕ) → All (λ r. r < 2 ^ width p) rows
+    → meet_dimension rows (codeword p u) ≡ dimension rows - dimension (map (offset p.field u) rows)
