@@ -7,3 +7,4 @@ pub mod Answering
 pub mod Losses
 pub mod Kernels
 pub mod Offsets
+pub mod Costs

@@ -1,6 +1,6 @@
 -- A polynomial of small weight that is 0 on a space gives the message that decodes it.
-use Rattle.std.proofs.Common.{◌≡◌, ◌≢◌, ◌⊎◌, ℕ, zero, suc, ◌+◌, ◌-◌, ◌*◌, ◌/◌, ◌%◌, ◌^◌, ◌<◌, ◌≤◌, true, List, [], length, max, refl, sym, ap, ap₂, ◌∙◌, subst, inl, inr, bit_xor, arith}
-use Rattle.std.specs.Prelude.{All, slice_index, Some}
+use Rattle.std.proofs.Common.{◌≡◌, ◌≢◌, ◌⊎◌, ℕ, zero, suc, ◌+◌, ◌-◌, ◌*◌, ◌/◌, ◌%◌, ◌^◌, ◌<◌, ◌≤◌, true, List, [], length, refl, sym, ap, ap₂, ◌∙◌, inl, inr, arith}
+use Rattle.std.specs.Prelude.{slice_index}
 use Rattle.std.proofs.lemmas.Bool.{cases_lt}
 use Rattle.std.proofs.lemmas.Nat.{div-mul-add, mod-mul-add}
 use Rattle.std.proofs.Math.Pow.{pow_mono}
@@ -8,20 +8,19 @@ use Rattle.std.proofs.lemmas.List.{get_or_past}
 use Rattle.std.proofs.lemmas.List.Elements.{All-weaker}
 use Rattle.kk_field.specs.Field.{Modulus}
 use Rattle.kk_field.proofs.Sums.{same_from_xor_zero}
-use Rattle.kk_linpoly.specs.LinPoly.{SamePolynomial, value, degree, composition}
+use Rattle.kk_linpoly.specs.LinPoly.{value, degree, composition}
 use Rattle.kk_linpoly.proofs.Values.{value-lt}
 use Rattle.kk_linpoly.proofs.Trimmed.{degree-some, trimmed-zeros}
 use Rattle.kk_linpoly.proofs.Coefficients.{composed-past, slice_index-composition}
 use Rattle.kk_linpoly.proofs.ComposeLoop.{composed-none}
 use Rattle.kk_linpoly.proofs.Roots.{zero_from_interpolation}
 use Rattle.kk_rows.specs.Span.{in_span, dimension}
-use Rattle.kk_rows.specs.Distance.{meet_dimension, distance}
 use Rattle.kk_rows.proofs.Distances.{distance_by_meet, meet_dimension-le_left, meet_dimension_comm}
 use Rattle.kk_interp.specs.declared.bi_poly.BiPoly.{BiPoly}
 use Rattle.kk_interp.specs.BiPoly.{IsPart, IsOfField, value_at, part_weight, weight}
 use Rattle.kk_code.specs.Codeword.{Parameters, IsCode, row_of, codeword}
 use Rattle.kk_code.specs.Decoding.{Decodes}
-use Rattle.kk_code.proofs.Graphs.{CommonPoints, common_points, dimension-codeword}
+use Rattle.kk_code.proofs.Graphs.{common_points, dimension-codeword}
 use Rattle.kk_decode.specs.Solving.{IsZeroOn, Solves}
 
 -- ---- lengths by weights
@@ -39,6 +38,13 @@ y_length_cases : (f : Modulus) (k l : ℕ) (q : BiPoly) → IsOfField f q.qx q.q
 unfolding weight
 y_length_cases f k zero q h low long some = absurd (omega arith)
 y_length_cases f k (suc l) q h low long some = let w = part_length f.degree (k - 1) l q.qy h.y long in omega arith
+
+-- the part in y is at most half as long as there are points, or one longer
+pub y_is_half : (f : Modulus) (k r : ℕ) (q : BiPoly) → IsOfField f q.qx q.qy → 1 ≤ k → weight k q.qx q.qy ≤ (r + k - 1) / 2 → 2 * length q.qy ≤ r + 2
+y_is_half f k r q over low light = elim (cases_lt 0 (length q.qy)) [
+  | inl positive ↦ omega (arith, y_length_cases f k (length q.qy) q over low refl positive, light, low)
+  | inr none ↦ omega (arith, none)
+]
 
 pub y_is_short : (f : Modulus) (k r : ℕ) (q : BiPoly) → IsOfField f q.qx q.qy → 1 ≤ k → r + k ≤ 128 → weight k q.qx q.qy ≤ (r + k - 1) / 2 → length q.qy + k ≤ 128
 y_is_short f k r q over low room light = elim (cases_lt 0 (length q.qy)) [

@@ -1,5 +1,5 @@
 //! The only message that can decode a space.
-ghost use Rattle.std.specs.Prelude.{◌≡◌, ℕ, ◌+◌, ◌≤◌, List, Some, IfSome, length, map};
+ghost use Rattle.std.specs.Prelude.{◌≡◌, ℕ, ◌+◌, ◌*◌, ◌≤◌, List, Some, IfSome, length, map};
 ghost use Rattle.kk_rows.specs.Span.{dimension};
 ghost use Rattle.kk_code.specs.Codeword.{IsMessage};
 ghost use Rattle.kk_code.specs.Decoding.{Decodes};
@@ -27,6 +27,7 @@ pub(crate) fn candidate<L: Ledger>(
     ensures message { IfSome result (IsMessage code.now) }
     ensures only { (rows u : List ℕ) → interp.now.points ≡ map (point_of code.now.field) rows → length rows ≤ dimension rows
         → Decodes code.now rows u → result ≡ Some u }
+    ensures cost { steps.new ≤ steps.old + (2 * code.now.field.degree + code.now.k * (length interp.now.points + 3)) }
 {
     let g = quotient(tables, &interp.least(), code.k(), steps)?;
     message_of(code, &g)

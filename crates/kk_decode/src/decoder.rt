@@ -1,5 +1,5 @@
 //! The decoder.
-ghost use Rattle.std.specs.Prelude.{◌≡◌, ℕ, ◌^◌, ◌<◌, List, All, IfSome, IfNone};
+ghost use Rattle.std.specs.Prelude.{◌≡◌, ℕ, ◌+◌, ◌*◌, ◌^◌, ◌<◌, ◌≤◌, List, All, IfSome, IfNone};
 ghost use Rattle.kk_rows.specs.Rows.{numbers};
 ghost use Rattle.kk_code.specs.Codeword.{width};
 ghost use Rattle.kk_code.specs.Decoding.{Decodes, answer};
@@ -7,8 +7,9 @@ ghost use Rattle.kk_code.specs.Decoding.{Decodes, answer};
 use crate::Scratch;
 use crate::candidate::candidate;
 use crate::interpolate::give;
+use crate::near::is_near;
 use crate::part::direct;
-use crate::spaces::{is_near, spanned};
+use crate::spaces::spanned;
 use kk_code::{Code, Message};
 use kk_field::Steps;
 use kk_interp::Interp;
@@ -26,6 +27,7 @@ pub fn decode<L: Ledger>(
     ensures some { IfSome result (Decodes code.now (numbers rows.now)) }
     ensures none { IfNone result ((u : List ℕ) → Decodes code.now (numbers rows.now) u → ⊥) }
     ensures answer { result ≡ answer code.now (numbers rows.now) }
+    ensures cost { steps.new ≤ steps.old + 64 * width code.now ^ 3 }
 {
     decode_space(code, &spanned(code, rows), scratch, steps)
 }
@@ -45,6 +47,7 @@ pub fn decode_space<L: Ledger>(
     ensures some { IfSome result (Decodes code.now space.now.rows) }
     ensures none { IfNone result ((u : List ℕ) → Decodes code.now space.now.rows u → ⊥) }
     ensures answer { result ≡ answer code.now space.now.rows }
+    ensures cost { steps.new ≤ steps.old + 64 * width code.now ^ 3 }
 {
     let k = code.k();
     let rank = space.rank();
@@ -61,7 +64,7 @@ pub fn decode_space<L: Ledger>(
     }
     give(code, tables, others, &mut interp, steps);
     let u = candidate(code, tables, &interp, steps)?;
-    if is_near(code, tables, space, &u, steps) {
+    if is_near(code, tables, space, &u, &mut scratch.map, steps) {
         Some(u)
     } else {
         None

@@ -1,5 +1,5 @@
 //! The message that a polynomial gives.
-ghost use Rattle.std.specs.Prelude.{◌≡◌, ◌≢◌, ◌⊎◌, ℕ, ◌+◌, ◌-◌, ◌≤◌, List, slice_index, [], ◌++◌, length, replicate, Some, IfSome};
+ghost use Rattle.std.specs.Prelude.{◌≡◌, ◌≢◌, ◌⊎◌, ℕ, ◌+◌, ◌-◌, ◌*◌, ◌≤◌, List, slice_index, [], ◌++◌, length, replicate, Some, IfSome};
 ghost use Rattle.kk_field.specs.Laws.{IsFieldModulus};
 ghost use Rattle.kk_linpoly.specs.LinPoly.{IsOver, SamePolynomial, trimmed};
 ghost use Rattle.kk_interp.specs.BiPoly.{IsOfField};
@@ -28,6 +28,7 @@ pub(crate) fn quotient<L: Ledger>(
     requires short { length q.now.qy + k ≤ 128 }
     ensures of_field { IfSome result (IsOver field.now.degree) }
     ensures only { (u : List ℕ) → IsOver field.now.degree u → length u ≤ k → Solves field.now q.now u → result ≡ Some (trimmed u) }
+    ensures cost { steps.new ≤ steps.old + (2 * field.now.degree + k * (1 + 2 * length q.now.qy)) }
 {
     if lowest(&q.qy) == 0 {
         return None;

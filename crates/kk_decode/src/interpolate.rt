@@ -1,5 +1,5 @@
 //! The rows of a space as points of an interpolation.
-ghost use Rattle.std.specs.Prelude.{◌≡◌, ◌+◌, ◌^◌, ◌<◌, ◌≤◌, ◌++◌, length, map, All};
+ghost use Rattle.std.specs.Prelude.{◌≡◌, ◌+◌, ◌*◌, ◌^◌, ◌<◌, ◌≤◌, ◌++◌, length, map, All};
 ghost use Rattle.kk_rows.specs.Rows.{numbers};
 ghost use Rattle.kk_code.specs.Codeword.{width};
 ghost use Rattle.kk_decode.specs.Solving.{point_of};
@@ -26,6 +26,7 @@ pub(crate) fn give<L: Ledger>(
     ensures field { interp.new.modulus ≡ interp.old.modulus }
     ensures k { interp.new.k ≡ interp.old.k }
     ensures points { interp.new.points ≡ interp.old.points ++ map (point_of code.now.field) (numbers rows.now) }
+    ensures cost { steps.new ≤ steps.old + length rows.now * (32 * (interp.old.k + length interp.old.points + length rows.now)) }
 {
     for row in rows {
         let (x, y) = code.parts(*row);

@@ -11,6 +11,7 @@ mod divide;
 mod interpolate;
 pub mod laws;
 mod loss;
+mod near;
 mod part;
 mod scratch;
 mod spaces;

@@ -1,5 +1,5 @@
 //! A space into which nothing was injected.
-ghost use Rattle.std.specs.Prelude.{◌≡◌, ◌+◌, ◌-◌, ◌≤◌, IsTrue, IfSome, length};
+ghost use Rattle.std.specs.Prelude.{◌≡◌, ◌+◌, ◌-◌, ◌*◌, ◌≤◌, IsTrue, IfSome, length};
 ghost use Rattle.kk_rows.specs.Span.{dimension};
 ghost use Rattle.kk_rows.specs.Distance.{distance};
 ghost use Rattle.kk_code.specs.Codeword.{IsMessage, codeword, width};
@@ -27,7 +27,8 @@ pub(crate) fn is_part<L: Ledger>(
     requires width { space.now.width ≡ width code.now }
     requires message { IsMessage code.now u.now }
     requires enough { code.now.k ≤ dimension space.now.rows }
-    ensures { IsTrue result → distance (codeword code.now u.now) space.now.rows ≤ code.now.l - code.now.k }
+    ensures near { IsTrue result → distance (codeword code.now u.now) space.now.rows ≤ code.now.l - code.now.k }
+    ensures cost { steps.new ≤ steps.old + dimension space.now.rows * (2 * code.now.k) }
 {
     let l = code.l();
     let f = LinPoly::from_slice(u.symbols());
@@ -54,7 +55,8 @@ pub(crate) fn direct<L: Ledger>(
     requires field { interp.now.modulus ≡ code.now.field }
     requires k { interp.now.k ≡ code.now.k }
     requires few { length interp.now.points + code.now.k ≤ 128 }
-    ensures { IfSome result (Decodes code.now space.now.rows) }
+    ensures decodes { IfSome result (Decodes code.now space.now.rows) }
+    ensures cost { steps.new ≤ steps.old + (2 * code.now.field.degree + code.now.k * (length interp.now.points + 3) + dimension space.now.rows * (2 * code.now.k)) }
 {
     let u = candidate(code, tables, interp, steps)?;
     if is_part(code, tables, space, &u, steps) {

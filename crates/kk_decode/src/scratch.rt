@@ -3,14 +3,16 @@ ghost use Rattle.std.specs.Prelude.{◌≡◌};
 
 use kk_code::Code;
 use kk_field::{Field, Ring};
+use kk_linpoly::LinMap;
 use kk_tables::FieldTables;
 
-/// What depends on the code alone, made once for many generations: the tables of its field, 32 KB.
+/// The tables of the code's field, made once for many generations, and the map of the message that is tested last: 48 KB.
 ///
 /// It serves codes of any parameters one after another, and its content never changes an answer.
 #[derive(Drop)]
 pub struct Scratch {
     pub(crate) tables: FieldTables,
+    pub(crate) map: LinMap,
 }
 
 impl Scratch {
@@ -18,6 +20,7 @@ impl Scratch {
     pub fn new() -> Scratch {
         Scratch {
             tables: FieldTables::new(Field::of(Ring::new(2, 3))),
+            map: LinMap::new(),
         }
     }
 

@@ -1,11 +1,10 @@
 //! The spaces of rows and codewords.
-ghost use Rattle.std.specs.Prelude.{◌≡◌, ℕ, ◌+◌, ◌*◌, ◌^◌, ◌<◌, ◌≤◌, ◌-◌, ◌↔◌, IsTrue, All};
+ghost use Rattle.std.specs.Prelude.{◌≡◌, ℕ, ◌+◌, ◌*◌, ◌^◌, ◌<◌, ◌≤◌, All};
 ghost use Rattle.kk_rows.specs.Span.{in_span};
-ghost use Rattle.kk_rows.specs.Distance.{distance};
 ghost use Rattle.kk_rows.specs.Rows.{numbers};
 ghost use Rattle.kk_code.specs.Codeword.{IsInRange, IsMessage, codeword, width};
 
-use kk_code::{Code, Message, distance, encode_with};
+use kk_code::{Code, Message, encode_with};
 use kk_field::Steps;
 use kk_rows::{Row, RowSpace};
 use kk_tables::FieldTables;
@@ -39,20 +38,4 @@ pub(crate) fn sent<L: Ledger>(
     ensures cost { steps.new ≤ steps.old + 2 * code.now.field.degree * code.now.k }
 {
     spanned(code, encode_with(tables, code, u, steps).as_slice())
-}
-
-/// Whether the codeword of the message lies within distance l - k of the space.
-pub(crate) fn is_near<L: Ledger>(
-    code: &Code,
-    tables: &FieldTables,
-    space: &RowSpace,
-    u: &Message,
-    steps: &mut Steps<L>,
-) -> bool
-    requires tables { tables.now ≡ code.now.field }
-    requires width { space.now.width ≡ width code.now }
-    requires message { IsMessage code.now u.now }
-    ensures { IsTrue result ↔ (distance (codeword code.now u.now) space.now.rows ≤ code.now.l - code.now.k) }
-{
-    distance(&sent(code, tables, u, steps), space) <= code.l() - code.k()
 }

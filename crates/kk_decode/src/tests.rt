@@ -1,5 +1,5 @@
 //! Worked spaces over small fields, with what a channel did to the codeword that was sent.
-ghost use Rattle.std.specs.Prelude.{◌≡◌, ◌^◌, ◌<◌, IsTrue, IfSome, All};
+ghost use Rattle.std.specs.Prelude.{◌≡◌, ◌+◌, ◌^◌, ◌<◌, ◌≤◌, IsTrue, IfSome, All};
 ghost use Rattle.kk_rows.specs.Rows.{numbers};
 ghost use Rattle.kk_code.specs.Codeword.{IsMessage, width};
 ghost use Rattle.kk_code.specs.Decoding.{answer};
@@ -199,5 +199,53 @@ fn worked_spaces_are_decoded(rt: HostRuntime) -> Result<(), Fail> {
             Some(Loss { erased, injected })
         );
     }
+    Ok(())
+}
+
+// What the rows decode to. Rows of 8 bits take at most 64·8^3 steps, and rows of 6 bits at most 64·6^3.
+fn decoded_in_few_steps<L: Ledger>(
+    code: &Code,
+    rows: &[Row],
+    scratch: &mut Scratch,
+    steps: &mut Steps<L>,
+) -> Option<Message>
+    requires below { All (λ r. r < 2 ^ width code.now) (numbers rows.now) }
+    ensures answer { result ≡ answer code.now (numbers rows.now) }
+    ensures eight_bits { width code.now ≡ 8 → steps.new ≤ steps.old + 32768 }
+    ensures six_bits { width code.now ≡ 6 → steps.new ≤ steps.old + 13824 }
+{
+    decode(code, rows, scratch, steps)
+}
+
+// Whether the code has rows of so many bits, and the rows decode to the message with these symbols.
+fn decodes_at_width<L: Ledger>(
+    code: &Code,
+    rows: &[Row],
+    width: u32,
+    symbols: &[u64],
+    blank: Blank,
+) -> bool
+    requires name { blank.name ≡ L.name }
+    requires parts { blank.parts ≡ L.parts }
+    requires some { 0 < blank.parts }
+{
+    if code.width() != width || !are_rows_of(code, rows) {
+        return false;
+    }
+    let mut steps: Steps<L> = Steps::new(blank);
+    match decoded_in_few_steps(code, rows, &mut Scratch::new(), &mut steps) {
+        Some(u) => u.symbols() == symbols,
+        None => false,
+    }
+}
+
+#[test]
+fn spaces_on_the_radius_take_few_steps(rt: HostRuntime) -> Result<(), Fail> {
+    let small = Ticket::read("kk1:00000001:3:0000000000000003:3:1:1")?.code();
+    let long = Ticket::read("kk1:00000001:4:0000000000000003:4:2:1")?.code();
+    let of_six = [Row(9), Row(18), Row(8)];
+    let of_eight = [Row(16), Row(38), Row(71), Row(1)];
+    assert!(rt; decodes_at_width::<Brand>(&small, &of_six, 6, &[1], Blank::new(1)));
+    assert!(rt; decodes_at_width::<Brand>(&long, &of_eight, 8, &[1, 1], Blank::new(1)));
     Ok(())
 }

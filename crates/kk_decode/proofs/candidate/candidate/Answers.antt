@@ -1,5 +1,7 @@
-use Rattle.std.proofs.Common.{◌≡◌, ◌+◌, ◌-◌, ◌/◌, ◌≤◌, ℕ, List, Some, length, map, sym, ap, ◌∙◌, subst, arith}
+use Rattle.std.proofs.Common.{◌≡◌, ◌+◌, ◌-◌, ◌*◌, ◌/◌, ◌≤◌, ℕ, List, length, map, sym, ap, ◌∙◌, subst, arith}
+use Rattle.std.proofs.lemmas.Nat.{mul-le}
 use Rattle.std.proofs.lemmas.List.{length-map}
+use Rattle.kk_field.specs.Field.{Modulus}
 use Rattle.kk_rows.specs.Span.{dimension}
 use Rattle.kk_linpoly.specs.LinPoly.{IsOver}
 use Rattle.kk_interp.specs.BiPoly.{IsOfField, IsZeroAt, weight}
@@ -7,10 +9,10 @@ use Rattle.kk_code.specs.Decoding.{Decodes}
 use Rattle.kk_decode.specs.Solving.{point_of, Solves}
 use Rattle.kk_decode.proofs.Messages.{some_is, none_is_no_some}
 use Rattle.kk_decode.proofs.Rows.{zero_on}
-use Rattle.kk_decode.proofs.Solving.{solves, y_is_short}
+use Rattle.kk_decode.proofs.Solving.{solves, y_is_half, y_is_short}
 use Rattle.kk_decode.proofs.candidate.candidate.Goals as goal
 use Rattle.kk_decode.proofs.candidate.candidate.Given.{Over}
-use Rattle.kk_decode.proofs.candidate.candidate.Goals.{After-k}
+use Rattle.kk_decode.proofs.candidate.candidate.Goals.{After-k, After-quotient}
 
 light : (g : Over) (c : After-k g) → weight c.args.code.now.k c.least.result.qx c.least.result.qy ≤ (length c.args.interp.now.points + c.args.code.now.k - 1) / 2
 light g c =
@@ -62,3 +64,24 @@ pub returns-clause-only : goal.returns-clause-only
 returns-clause-only g c rows u points independent decodes =
     let a = asked g (goal.at.returns-clause-only g c).After-k rows u points independent decodes in
     c.message_of.ensures.only u decodes.message (some_is _ _ (c.in_ok-g.ensures.only u a.0 a.1 a.2))
+
+half : (g : Over) (c : After-k g) → 2 * length c.least.result.qy ≤ length c.args.interp.now.points + 2
+half g c = y_is_half c.args.code.now.field c.args.code.now.k (length c.args.interp.now.points) c.least.result (of_field g c) c.k.ensures.in_range.k_low (light g c)
+
+cost : (g : Over) (c : After-quotient g) → 2 * length c.least.result.qy ≤ length c.args.interp.now.points + 2
+    → c.quotient.new.steps ≤ c.args.steps.now + (2 * c.args.code.now.field.degree + c.args.code.now.k * (length c.args.interp.now.points + 3))
+cost g c short =
+    let r = length c.args.interp.now.points in
+    let degree = ap (λ (f : Modulus). f.degree) c.requires.tables in
+    let terms = mul-le c.k.result (1 + 2 * length c.least.result.qy) c.args.code.now.k (r + 3) (omega (arith, c.k.ensures.symbols)) (omega (arith, short)) in
+    omega (arith, c.quotient.ensures.cost, degree, terms)
+
+pub returns-in_err-g-clause-cost : goal.returns-in_err-g-clause-cost
+returns-in_err-g-clause-cost g c =
+    let at = goal.at.returns-in_err-g-clause-cost g c in
+    cost g at.After-quotient (half g at.After-k)
+
+pub returns-clause-cost : goal.returns-clause-cost
+returns-clause-cost g c =
+    let at = goal.at.returns-clause-cost g c in
+    cost g at.After-quotient (half g at.After-k)

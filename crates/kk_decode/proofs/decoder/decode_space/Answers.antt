@@ -1,22 +1,23 @@
-use Rattle.std.proofs.Common.{◌≡◌, ℕ, ◌+◌, ◌-◌, ◌*◌, ◌^◌, ◌<◌, ◌≤◌, List, [], ◌++◌, length, map, take, drop, Some, sym, ap, ◌∙◌, subst, arith, length-append}
+use Rattle.std.proofs.Common.{◌≡◌, ℕ, ◌+◌, ◌-◌, ◌*◌, ◌^◌, ◌<◌, ◌≤◌, List, ◌++◌, length, map, sym, ap, ◌∙◌, subst, arith}
 use Rattle.std.specs.Prelude.{All}
 use Rattle.std.proofs.lemmas.Bool.{both_ways}
-use Rattle.std.proofs.lemmas.List.{length-map, length-take-le, length-drop, take-map, drop-map}
+use Rattle.std.proofs.lemmas.List.{length-map, take-map, drop-map}
 use Rattle.std.proofs.lemmas.List.Elements.{All-take, All-drop}
 use Rattle.kk_rows.specs.declared.rows.Row.{Row}
 use Rattle.kk_rows.specs.Rows.{numbers}
 use Rattle.kk_rows.specs.Span.{dimension}
 use Rattle.kk_rows.specs.Distance.{distance}
-use Rattle.kk_code.specs.Codeword.{IsCode, codeword, width}
-use Rattle.kk_code.specs.Decoding.{Decodes, answer}
+use Rattle.kk_code.specs.Codeword.{codeword, width}
+use Rattle.kk_code.specs.Decoding.{Decodes}
 use Rattle.kk_code.proofs.Enumeration.{answer-of_message, answer-of_none}
 use Rattle.kk_decode.specs.Solving.{point_of}
 use Rattle.kk_decode.proofs.Messages.{some_is, none_is_no_some}
 use Rattle.kk_decode.proofs.Reach.{rank_in_reach}
 use Rattle.kk_decode.proofs.Rows.{count_rows, points_of_all}
+use Rattle.kk_decode.proofs.Costs.{Sizes, points_cost, division_cost, values_cost, map_cost, all_fits}
 use Rattle.kk_decode.proofs.decoder.decode_space.Given.{Over}
 use Rattle.kk_decode.proofs.decoder.decode_space.Goals as goal
-use Rattle.kk_decode.proofs.decoder.decode_space.Goals.{After-rows, After-give, After-give-2, After-from_residual, Else-is_near, Joined-then-rank-k, then-rank-k-via-then-rank-k, then-rank-k-via-else-rank-k+then-rank-l}
+use Rattle.kk_decode.proofs.decoder.decode_space.Goals.{After-rows, After-give, After-direct, After-give-2, After-candidate, After-from_residual, Else-is_near, Joined-then-rank-k, then-rank-k-via-then-rank-k, then-rank-k-via-else-rank-k+then-rank-l}
 
 -- ---- ranks out of reach
 
@@ -104,20 +105,23 @@ independent g c =
     let rows = c.args.space.now.rows in
     omega (arith, count_rows items rows c.rows.ensures.rows c.rows.ensures.reduced, sym (length-map items (λ (row : Row). row.0)) ∙ ap length c.rows.ensures.rows)
 
+-- there are at most as many points as the rank
+point_count : (g : Over) (c : After-give-2 g) → length c.give-2.new.interp.points ≤ c.rank-rank.result
+point_count g c =
+    let many = ap length (all_points g c) ∙ length-map c.args.space.now.rows (point_of c.args.code.now.field) in
+    omega (arith, many, independent g c, c.rank-rank.ensures.dimension)
+
 pub candidate-requires-clause-few : goal.candidate-requires-clause-few
 candidate-requires-clause-few g c =
     let at = goal.at.candidate-requires-clause-few g c in
     let range = c.k-k.ensures.in_range in
-    let rows = c.args.space.now.rows in
-    let many : length c.give-2.new.interp.points ≡ length rows =
-    ap length (all_points g at.After-give-2) ∙ length-map rows (point_of c.args.code.now.field) in
-    omega (arith, many, independent g at.After-give-2, c.rank-rank.ensures.dimension, range.wide, c.rank-rank.ensures.within, c.requires.width, range.k_high, range.l_high, range.m_high)
+    omega (arith, point_count g at.After-give-2, range.wide, c.rank-rank.ensures.within, c.requires.width, range.k_high, range.l_high, range.m_high)
 
 -- ---- the answers
 
 pub returns-in-Some-clause-answer : goal.returns-in-Some-clause-answer
 returns-in-Some-clause-answer g c =
-    sym (answer-of_message c.args.code.now c.k-k.ensures.code c.args.space.now.rows c.in-Some.u c.in-Some.ensures)
+    sym (answer-of_message c.args.code.now c.k-k.ensures.code c.args.space.now.rows c.in-Some.u c.in-Some.ensures.decodes)
 
 -- where the points give no message, none decodes
 no_candidate : (g : Over) (c : After-from_residual g) → c.give-2.new.interp.points ≡ map (point_of c.args.code.now.field) c.args.space.now.rows
@@ -137,7 +141,7 @@ pub returns-then-is_near-clause-answer : goal.returns-then-is_near-clause-answer
 returns-then-is_near-clause-answer g c =
     let p = c.args.code.now in
     let rows = c.args.space.now.rows in
-    sym (answer-of_message p c.k-k.ensures.code rows c.in_ok-u.u (record { message = c.in_ok-u.ensures.message; near = c.is_near.ensures.0 c.if-is_near.true }))
+    sym (answer-of_message p c.k-k.ensures.code rows c.in_ok-u.u (record { message = c.in_ok-u.ensures.message; near = c.is_near.ensures.near.0 c.if-is_near.true }))
 
 -- where the only message is too far, none decodes
 far : (g : Over) (c : Else-is_near g) → c.give-2.new.interp.points ≡ map (point_of c.args.code.now.field) c.args.space.now.rows
@@ -147,7 +151,7 @@ far g c points independent u d =
     let rows = c.args.space.now.rows in
     let same : c.in_ok-u.u ≡ u = some_is c.in_ok-u.u u (c.in_ok-u.ensures.only rows u points independent d) in
     let near = subst (λ v. distance (codeword p v) rows ≤ p.l - p.k) (sym same) d.near in
-    both_ways _ c.if-is_near.false (c.is_near.ensures.1 near)
+    both_ways _ c.if-is_near.false (c.is_near.ensures.near.1 near)
 
 pub returns-else-is_near-clause-none : goal.returns-else-is_near-clause-none
 returns-else-is_near-clause-none g c = far g c (all_points g (goal.at.returns-else-is_near-clause-none g c).After-give-2) (independent g (goal.at.returns-else-is_near-clause-none g c).After-give-2)
@@ -155,3 +159,125 @@ returns-else-is_near-clause-none g c = far g c (all_points g (goal.at.returns-el
 pub returns-else-is_near-clause-answer : goal.returns-else-is_near-clause-answer
 returns-else-is_near-clause-answer g c =
     sym (answer-of_none c.args.code.now c.args.space.now.rows (far g c (all_points g (goal.at.returns-else-is_near-clause-answer g c).After-give-2) (independent g (goal.at.returns-else-is_near-clause-answer g c).After-give-2)))
+
+-- ---- the steps
+
+sizes : (g : Over) (c : After-rows g) → Sizes (width c.args.code.now) c.k-k.result c.rank-rank.result
+sizes g c =
+    let range = c.k-k.ensures.in_range in
+    let most : c.rank-rank.result + c.k-k.result ≤ 2 * c.args.code.now.l = omega (arith, c.if-rank-l.false, c.l.ensures.points, c.k-k.ensures.symbols, range.k_high) in
+    record {
+      three = omega (arith, range.m_low, range.l_low);
+      symbols = omega (arith, c.k-k.ensures.symbols, range.k_high, range.l_high);
+      rank = omega (arith, most, range.l_high);
+    }
+
+first_cost : (g : Over) (c : After-give g) → Sizes (width c.args.code.now) c.k-k.result c.rank-rank.result
+    → c.give.new.steps ≤ c.args.steps.now + 32 * (width c.args.code.now * width c.args.code.now)
+first_cost g c size =
+    let front = length c.split_at.result.0.now in
+    let all = c.new-interp.result.k + length c.new-interp.result.points + front in
+    let few : front ≤ width c.args.code.now = omega (arith, c.split_at.ensures.front_len, size.symbols) in
+    let short : all ≤ width c.args.code.now = omega (arith, c.new-interp.ensures.k, ap length c.new-interp.ensures.no_points, c.split_at.ensures.front_len, size.symbols) in
+    omega (arith, c.give.ensures.cost, points_cost (width c.args.code.now) front all few short)
+
+direct_cost : (g : Over) (c : After-direct g) → length c.give.new.interp.points ≡ length c.split_at.result.0.now
+    → Sizes (width c.args.code.now) c.k-k.result c.rank-rank.result
+    → c.direct.new.steps ≤ c.give.new.steps + 5 * (width c.args.code.now * width c.args.code.now)
+direct_cost g c points size =
+    let p = c.args.code.now in
+    let n = width p in
+    let r = length c.give.new.interp.points in
+    let field : p.field.degree ≤ n = omega arith in
+    let short : p.k ≤ n = omega (arith, c.k-k.ensures.symbols, size.symbols) in
+    let few : r ≤ n = omega (arith, points, c.split_at.ensures.front_len, size.symbols) in
+    let rows : dimension c.args.space.now.rows ≤ n = omega (arith, c.rank-rank.ensures.dimension, size.rank) in
+    omega (
+      arith,
+      c.direct.ensures.cost,
+      division_cost n p.field.degree p.k r field size.three short few,
+      values_cost n (dimension c.args.space.now.rows) p.k rows (omega (arith, c.k-k.ensures.symbols, size.symbols)),
+    )
+
+others_cost : (g : Over) (c : After-give-2 g) → length c.give.new.interp.points ≡ length c.split_at.result.0.now → length c.rows.result.now ≡ c.rank-rank.result
+    → Sizes (width c.args.code.now) c.k-k.result c.rank-rank.result
+    → c.give-2.new.steps ≤ c.direct.new.steps + 32 * (width c.args.code.now * width c.args.code.now)
+others_cost g c points count size =
+    let n = width c.args.code.now in
+    let back = length c.split_at.result.1.now in
+    let all = c.give.new.interp.k + length c.give.new.interp.points + back in
+    let k_is : c.give.new.interp.k ≡ c.k-k.result = c.give.ensures.k ∙ c.new-interp.ensures.k in
+    let few : back ≤ n = omega (arith, c.split_at.ensures.back_len, count, size.rank) in
+    let short : all ≤ n = omega (arith, k_is, points, c.split_at.ensures.front_len, c.split_at.ensures.back_len, count, size.rank, c.if-rank-k.false) in
+    omega (arith, c.give-2.ensures.cost, points_cost n back all few short)
+
+candidate_cost : (g : Over) (c : After-candidate g) → length c.give-2.new.interp.points ≤ c.rank-rank.result
+    → Sizes (width c.args.code.now) c.k-k.result c.rank-rank.result
+    → c.candidate.new.steps ≤ c.give-2.new.steps + 4 * (width c.args.code.now * width c.args.code.now)
+candidate_cost g c points size =
+    let p = c.args.code.now in
+    let n = width p in
+    let field : p.field.degree ≤ n = omega arith in
+    let short : p.k ≤ n = omega (arith, c.k-k.ensures.symbols, size.symbols) in
+    omega (arith, c.candidate.ensures.cost, division_cost n p.field.degree p.k (length c.give-2.new.interp.points) field size.three short (omega (arith, points, size.rank)))
+
+pub returns-in-Some-clause-cost : goal.returns-in-Some-clause-cost
+returns-in-Some-clause-cost g c =
+    let at = goal.at.returns-in-Some-clause-cost g c in
+    let n = width c.args.code.now in
+    let size = sizes g at.After-rows in
+    omega (
+      arith,
+      first_cost g at.After-give size,
+      direct_cost g at.After-direct (first_points g at.After-give) size,
+      all_fits n (37 * (n * n)) size.three (omega arith),
+    )
+
+pub returns-in_err-u-clause-cost : goal.returns-in_err-u-clause-cost
+returns-in_err-u-clause-cost g c =
+    let at = goal.at.returns-in_err-u-clause-cost g c in
+    let n = width c.args.code.now in
+    let size = sizes g at.After-rows in
+    let points = first_points g at.After-give in
+    omega (
+      arith,
+      first_cost g at.After-give size,
+      direct_cost g at.After-direct points size,
+      others_cost g at.After-give-2 points (count g at.After-rows) size,
+      candidate_cost g at.After-candidate (point_count g at.After-give-2) size,
+      all_fits n (73 * (n * n)) size.three (omega arith),
+    )
+
+pub returns-then-is_near-clause-cost : goal.returns-then-is_near-clause-cost
+returns-then-is_near-clause-cost g c =
+    let at = goal.at.returns-then-is_near-clause-cost g c in
+    let n = width c.args.code.now in
+    let size = sizes g at.After-rows in
+    let points = first_points g at.After-give in
+    omega (
+      arith,
+      first_cost g at.After-give size,
+      direct_cost g at.After-direct points size,
+      others_cost g at.After-give-2 points (count g at.After-rows) size,
+      candidate_cost g at.After-candidate (point_count g at.After-give-2) size,
+      c.is_near.ensures.cost,
+      map_cost n c.args.code.now.field.degree c.args.code.now.k (omega arith) (omega (arith, c.k-k.ensures.symbols, size.symbols)),
+      all_fits n (74 * (n * n)) size.three (omega arith),
+    )
+
+pub returns-else-is_near-clause-cost : goal.returns-else-is_near-clause-cost
+returns-else-is_near-clause-cost g c =
+    let at = goal.at.returns-else-is_near-clause-cost g c in
+    let n = width c.args.code.now in
+    let size = sizes g at.After-rows in
+    let points = first_points g at.After-give in
+    omega (
+      arith,
+      first_cost g at.After-give size,
+      direct_cost g at.After-direct points size,
+      others_cost g at.After-give-2 points (count g at.After-rows) size,
+      candidate_cost g at.After-candidate (point_count g at.After-give-2) size,
+      c.is_near.ensures.cost,
+      map_cost n c.args.code.now.field.degree c.args.code.now.k (omega arith) (omega (arith, c.k-k.ensures.symbols, size.symbols)),
+      all_fits n (74 * (n * n)) size.three (omega arith),
+    )

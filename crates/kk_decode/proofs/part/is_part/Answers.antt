@@ -1,20 +1,20 @@
-use Rattle.std.proofs.Common.{◌≡◌, ℕ, ◌+◌, ◌*◌, ◌/◌, ◌%◌, ◌^◌, ◌<◌, ◌≤◌, List, take, get_or, sym, ap, ◌∙◌, subst, arith}
+use Rattle.std.proofs.Common.{◌≡◌, ℕ, ◌+◌, ◌*◌, ◌^◌, ◌<◌, ◌≤◌, length, take, get_or, sym, ap, ◌∙◌, subst, arith}
 use Rattle.std.specs.Prelude.{All}
-use Rattle.std.proofs.Math.Nat.{lt-mul-div-succ}
-use Rattle.std.proofs.lemmas.Nat.{pow_pos}
+use Rattle.std.proofs.lemmas.Nat.{mul-le}
 use Rattle.std.proofs.lemmas.List.{take_all}
 use Rattle.std.proofs.lemmas.List.Elements.{All-push}
-use Rattle.kk_field.specs.Laws.{IsFieldModulus}
 use Rattle.kk_rows.specs.Rows.{numbers}
 use Rattle.kk_rows.specs.Span.{dimension}
 use Rattle.kk_rows.proofs.RowLists.{numbers_each, numbers-take_more}
 use Rattle.kk_linpoly.specs.LinPoly.{value}
 use Rattle.kk_linpoly.proofs.Values.{value-trimmed}
-use Rattle.kk_code.specs.Codeword.{IsCode, width}
+use Rattle.kk_code.specs.Codeword.{width}
 use Rattle.kk_decode.specs.Solving.{IsOnGraph}
 use Rattle.kk_decode.proofs.Members.{near_of_part}
-use Rattle.kk_decode.proofs.Rows.{below_from_shift}
+use Rattle.kk_decode.proofs.Rows.{below_from_shift, count_rows}
+use Rattle.kk_decode.proofs.part.is_part.Given.{Over}
 use Rattle.kk_decode.proofs.part.is_part.Goals as goal
+use Rattle.kk_decode.proofs.part.is_part.Goals.{After-from_slice-f, After-rows-row-items, then-x-l-ne0-via-then-x-l-ne0, then-x-l-ne0-via-else-x-l-ne0+then-eval-y}
 
 pub parts-x-requires : goal.parts-x-requires
 parts-x-requires g c =
@@ -23,6 +23,10 @@ parts-x-requires g c =
     let below : All (λ r. r < 2 ^ c.args.space.now.width) (numbers items) =
     subst (All (λ r. r < 2 ^ c.args.space.now.width)) (sym c.rows-row-items.ensures.rows) c.rows-row-items.ensures.below in
     numbers_each (λ r. r < 2 ^ width p) items c.loop-row.row-index (subst (λ w. All (λ r. r < 2 ^ w) (numbers items)) c.requires.width below) c.loop-row-test.true
+
+-- the polynomial has at most k coefficients
+short : (g : Over) (c : After-from_slice-f g) → length c.from_slice-f.result ≤ c.args.code.now.k
+short g c = omega (arith, c.from_slice-f.ensures.len, ap length c.symbols.ensures.symbols, c.requires.message.len)
 
 pub loop-row-preserved : goal.loop-row-preserved
 loop-row-preserved g c =
@@ -46,10 +50,35 @@ loop-row-preserved g c =
     record {
       each = subst (All (IsOnGraph p u)) (sym (numbers-take_more items i c.loop-row-test.true))
           (All-push (IsOnGraph p u) (numbers (take i items)) row c.loop-row.invariant.each here);
+      counted = omega (arith, c.loop-row.invariant.counted, c.eval.ensures.cost, short g (goal.at.loop-row-preserved g c).After-from_slice-f);
     }
 
-pub returns : goal.returns
-returns g c told =
+-- a row more has at most two steps for each symbol
+rounds : (g : Over) (c : After-rows-row-items g) (i : ℕ) → i ≤ length c.rows-row-items.result.now
+    → i * (2 * c.args.code.now.k) ≤ dimension c.args.space.now.rows * (2 * c.args.code.now.k)
+rounds g c i within =
+    let k = 2 * c.args.code.now.k in
+    let count = count_rows c.rows-row-items.result.now c.args.space.now.rows c.rows-row-items.ensures.rows c.rows-row-items.ensures.reduced in
+    mul-le i k (dimension c.args.space.now.rows) k (omega (arith, within, count)) (omega arith)
+
+pub returns-then-x-l-ne0-clause-cost : goal.returns-then-x-l-ne0-clause-cost
+returns-then-x-l-ne0-clause-cost g c =
+    let at = goal.at.returns-then-x-l-ne0-clause-cost g c in
+    let i = c.loop-row.row-index in
+    let before = rounds g at.After-rows-row-items i c.loop-row.auto.row-index-end in
+    let after = rounds g at.After-rows-row-items (i + 1) (omega (arith, c.loop-row-test.true)) in
+    elim c.then-x-l-ne0.branch [
+      | then-x-l-ne0-via-then-x-l-ne0 w ↦ omega (arith, c.loop-row.invariant.counted, w.steps-is, before)
+      | then-x-l-ne0-via-else-x-l-ne0+then-eval-y w ↦
+          omega (arith, c.loop-row.invariant.counted, w.eval.ensures.cost, w.steps-is, short g at.After-from_slice-f, after)
+    ]
+
+pub returns-clause-cost : goal.returns-clause-cost
+returns-clause-cost g c =
+    omega (arith, c.loop-row.invariant.counted, rounds g (goal.at.returns-clause-cost g c).After-rows-row-items c.loop-row.row-index c.loop-row.auto.row-index-end)
+
+pub returns-clause-near : goal.returns-clause-near
+returns-clause-near g c told =
     let p = c.args.code.now in
     let u = c.args.u.now in
     let items = c.rows-row-items.result.now in

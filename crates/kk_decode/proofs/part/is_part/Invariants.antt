@@ -1,4 +1,4 @@
-use Rattle.std.proofs.Common.{take}
+use Rattle.std.proofs.Common.{◌+◌, ◌*◌, ◌≤◌, take}
 use Rattle.std.specs.Prelude.{All}
 use Rattle.kk_rows.specs.Rows.{numbers}
 use Rattle.kk_decode.specs.Solving.{IsOnGraph}
@@ -7,4 +7,5 @@ use Rattle.kk_decode.proofs.part.is_part.Given as goal
 abbrev pub invariant-loop-row : goal.invariant-loop-row
 invariant-loop-row g l = record {
   each : All (IsOnGraph l.code l.u) (numbers (take l.row-index l.row-items));
+  counted : l.steps ≤ l.fn.steps + l.row-index * (2 * l.code.k);
 }

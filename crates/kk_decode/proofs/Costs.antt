@@ -1,0 +1,34 @@
+-- The sum of the steps of a decoding.
+use Rattle.std.proofs.Common.{◌≡◌, ℕ, ◌+◌, ◌*◌, ◌^◌, ◌≤◌, ap, ◌∙◌, arith}
+use Rattle.std.proofs.Math.Nat.{pow-suc, pow-zero, one-mul}
+use Rattle.std.proofs.lemmas.Nat.{mul-le}
+
+-- a row has n bits, at least three; a message has k symbols, and a space that may decode the rank r
+pub record Sizes (n k r : ℕ) : Type 0 where
+  pub three : 3 ≤ n
+  pub symbols : 2 * k ≤ n
+  pub rank : r + k ≤ n
+
+-- with at least three bits a row, a cube is three squares or more
+three_squares : (n : ℕ) → 3 ≤ n → 3 * (n * n) ≤ n ^ 3
+three_squares n three =
+    let cube : n ^ 3 ≡ n * n * n = pow-suc n 2 ∙ ap (λ a. a * n) (pow-suc n 1 ∙ ap (λ a. a * n) (pow-suc n 0 ∙ ap (λ a. a * n) (pow-zero n) ∙ one-mul n)) in
+    omega (arith, cube, mul-le (n * n) 3 (n * n) n (omega arith) three)
+
+module _ (n : ℕ) where
+  -- s is how many points and coefficients there are at each point
+  pub points_cost : (r s : ℕ) → r ≤ n → s ≤ n → r * (32 * s) ≤ 32 * (n * n)
+  points_cost r s few short = omega (arith, mul-le r (32 * s) n (32 * n) few (omega (arith, short)))
+
+  pub division_cost : (m k r : ℕ) → m ≤ n → 3 ≤ n → k ≤ n → r ≤ n → 2 * m + k * (r + 3) ≤ 4 * (n * n)
+  division_cost m k r field three short few =
+      omega (arith, mul-le m 1 n n field (omega (arith, three)), mul-le k (r + 3) n (2 * n) short (omega (arith, few, three)))
+
+  pub values_cost : (r k : ℕ) → r ≤ n → 2 * k ≤ n → r * (2 * k) ≤ n * n
+  values_cost r k few short = mul-le r (2 * k) n n few short
+
+  pub map_cost : (m k : ℕ) → m ≤ n → 2 * k ≤ n → 2 * m * k ≤ n * n
+  map_cost m k field short = omega (arith, mul-le m (2 * k) n n field short)
+
+  pub all_fits : (s : ℕ) → 3 ≤ n → s ≤ 192 * (n * n) → s ≤ 64 * n ^ 3
+  all_fits s three few = omega (arith, few, three_squares n three)
