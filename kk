@@ -29,6 +29,8 @@ Kschischang. Each command writes a report to standard error, and ends with the s
                                                      sends combinations of the frames that come in
   kk recv TICKET LISTEN.. [--idle N] [--most N] [--tolerate N] > FILE
                                                      the file of the frames that come in at up to 16 addresses
+  kk sim TICKET ERASE INJECT GATES --seed HEX        a file from the seed through a channel that erases and injects so
+                                                     much of each generation, to a receiver with so many gates
 
   kk --build   builds the program where there is none of these sources, and runs nothing
   kk --help    prints this page, as do -h, help and --version. Each of these words stands alone

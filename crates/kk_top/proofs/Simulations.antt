@@ -24,7 +24,9 @@ use Rattle.kk_code.specs.Ticket.{TicketFields, generations}
 use Rattle.kk_code.specs.TicketText.{IsTicket}
 use Rattle.kk_assemble.specs.FileBits.{cut}
 use Rattle.kk_assemble.proofs.Cuts.{file_from_answers}
+use Rattle.kk_code.proofs.Enumeration.{answer_is_the_message as its_answer}
 use Rattle.kk_decode.proofs.Answering.{answer-same_span}
+use Rattle.kk_decode.proofs.Losses.{distance_is_the_loss}
 use Rattle.kk_frame.specs.declared.frame.TheConstants.{FRAME_BYTES}
 use Rattle.kk_frame.specs.Events.{stop, taken}
 use Rattle.kk_frame.specs.Generation.{rows_of}
@@ -46,6 +48,7 @@ use Rattle.kk_top.specs.Answers.{frozen, file_of}
 use Rattle.kk_top.specs.Command.{RanThrough}
 use Rattle.kk_top.specs.Report.{concluded_text, status_line, unfrozen_totals}
 use Rattle.kk_top.specs.Simulation.{answers_after, file_after, rows_after, totals_after, fate_of, fate_after, told_of, summary, summary_of, equal_summary, trial_plan, GaveAll, IsSimulation}
+use Rattle.kk_top.proofs.Packed.{ticket_code}
 use Rattle.kk_top.proofs.Receivers.{answers_are, totals_are}
 use Rattle.kk_top.proofs.Statuses.{IsStatusOf, at_three, decoded_or_through, told_through, through_told}
 
@@ -296,6 +299,16 @@ module _ (t : TicketFields) (loss : Loss) (n : ℕ) (word : ℕ → ℕ) (ticket
       subst (λ l. WasGiven l report) (λ i. equal_is near i ++ status_line (told_of (fate_equal near i))) reported,
     )
 
+    beyond : t.code.l - t.code.k < loss.erase + loss.inject
+        → (g : ℕ) → answer t.code (received_rows t loss word g) ≡ Some (cut t.code (made_file t.length word) g) → ⊥
+    beyond far g is =
+        let rows = received_rows t loss word g in
+        let u = cut t.code (made_file t.length word) g in
+        let code = ticket_code t ticket in
+        let near = ((its_answer.some t.code code rows u).0 is).near in
+        let lost = (received_rows_have_the_loss t loss word g ticket possible).lost in
+        omega (arith, near, far, distance_is_the_loss t.code code rows u, lost.erased_are, lost.injected_are)
+
     pub is_simulation : (logs : List LogsView) → logs ≡ r.logs ∷ [] → IsSimulation t loss n word report logs status
     is_simulation logs kept_logs =
         let three = told_three (file_after t loss word) (made_file t.length word) in
@@ -315,4 +328,5 @@ module _ (t : TicketFields) (loss : Loss) (n : ℕ) (word : ℕ → ℕ) (ticket
           no_other_status = decoded_or_through said status (elim said_which [ inl three ↦ inl three | inr none ↦ inr (inl none) ]) as_told;
           reported = reported;
           within_radius = within;
+          beyond_radius = beyond;
         }

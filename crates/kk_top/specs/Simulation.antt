@@ -1,5 +1,5 @@
 -- A file from the words of a generator, through an operator channel and back: what a run under a ticket makes of it.
-use Rattle.std.specs.Prelude.{◌≡◌, ◌↔◌, ◌⊎◌, ℕ, ◌+◌, ◌-◌, ◌*◌, ◌≤◌, if◌then◌else◌, List, [], ◌∷◌, ◌++◌, map, Option, Some, None, is_some, refl, codes}
+use Rattle.std.specs.Prelude.{◌≡◌, ◌↔◌, ◌⊎◌, ℕ, ◌+◌, ◌-◌, ◌*◌, ◌<◌, ◌≤◌, if◌then◌else◌, List, [], ◌∷◌, ◌++◌, map, Option, Some, None, is_some, refl, codes}
 use Rattle.std.specs.Fmt.{decimal, digits}
 use Rattle.std.specs.List.{count_by, range_with_len}
 use Rattle.std.specs.Str.{bytes_eq}
@@ -10,6 +10,7 @@ use Rattle.kk_outside.specs.GateState.{told}
 use Rattle.kk_outside.specs.Sink.{SinkTold, SinkFailed, WasGiven}
 use Rattle.kk_code.specs.Decoding.{answer}
 use Rattle.kk_code.specs.Ticket.{TicketFields, generations}
+use Rattle.kk_assemble.specs.FileBits.{cut}
 use Rattle.kk_table.specs.Logs.{LogsView}
 use Rattle.kk_trial.specs.declared.loss.Loss.{Loss}
 use Rattle.kk_trial.specs.Trial.{made_file, received_rows, trial_frames, dealt, trial_events, trial_gates}
@@ -108,9 +109,11 @@ pub record IsSimulation (t : TicketFields) (loss : Loss) (n : ℕ) (word : ℕ �
   pub no_other_status : (status ≡ 3) ⊎ RanThrough status
   -- What the report's sink holds: the same for each number of gates.
   pub reported : WasGiven (summary_of t loss word ++ status_line (told_of (fate_after t loss word))) report
-  -- Where no more is erased and injected than the code bears, the file is the one that was made.
+  -- On the radius and within it the file is the one that was made, and beyond it no answer is the generation's message.
   pub within_radius : loss.erase + loss.inject ≤ t.code.l - t.code.k
       → RanThrough status × (file_after t loss word ≡ Some (made_file t.length word)) × WasGiven (equal_summary t loss ++ status_line 0) report
+  pub beyond_radius : t.code.l - t.code.k < loss.erase + loss.inject
+      → (g : ℕ) → answer t.code (received_rows t loss word g) ≡ Some (cut t.code (made_file t.length word) g) → ⊥
 
 -- ---- worked
 

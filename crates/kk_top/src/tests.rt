@@ -2,6 +2,7 @@ mod pack;
 mod plan;
 mod relay;
 mod send;
+mod sim;
 
 use super::*;
 use kk_outside::{MemorySink, MemorySource};
