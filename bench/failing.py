@@ -76,7 +76,7 @@ def received_byte(**streams):
 
 
 def closed_receivers(table):
-    """`recv` of a byte while standard streams are closed, so that a gate's socket has the number of one."""
+    """`recv` of a byte while standard streams are closed, whose numbers no socket may take."""
     for closed in ([0], [1], [2], [0, 1], [0, 2], [1, 2], [0, 1, 2]):
         (_, file, report), came = received_byte(before=closing(*closed))
         told = OUTPUT_FAULT if 1 in closed else report

@@ -4,6 +4,7 @@ ghost use Rattle.std.specs.Prelude.{◌≡◌, ◌≤◌, IfOk, length};
 use kk_outside::{OpenFault, UdpGate, UdpOutlet};
 use kk_top::{MAX_GATES, WordsFault, places};
 use std::alloc::Global;
+use std::net::TcpListener;
 
 /// Why the sockets aren't open.
 #[derive(Debug, Drop)]
@@ -42,6 +43,7 @@ impl Sockets {
         if listen.len() > MAX_GATES {
             return Ok(Sockets::none(alloc));
         }
+        let _held = [placeholder(rt), placeholder(rt), placeholder(rt)];
         let outlet = outlet_to(rt, alloc, addresses.target())?;
         let gates = gates_at(rt, alloc, listen)?;
         Ok(Sockets { gates, outlet })
@@ -56,6 +58,12 @@ impl Sockets {
             outlet: UdpOutlet::none(),
         }
     }
+}
+
+/// Takes the lowest number that is free among those of open files, if the system gives a socket. Three are held while others
+/// are opened: else these would take the numbers of standard streams that are closed, and what is written there would be sent.
+fn placeholder(rt: &HostRuntime) -> Option<TcpListener> {
+    TcpListener::bind(rt, "127.0.0.1:0").ok()
 }
 
 /// An outlet to this address, or one without a socket.
