@@ -13,7 +13,8 @@ PROGRAM is the built kk, as crates/kk_main/out/kk_main. Without GROUP all groups
   signals     SIGSTOP and SIGCONT again and again, and signals that end a program
   gates       `recv` with sixteen gates on a machine whose processors are all busy
   calls       each call of the system is refused in turn, by strace; without strace the group is left out
-  memory      limits of the address space, from none to enough
+  memory      limits of the address space, from none to enough, and a small stack
+  requests    each request for memory is refused in turn, by the program of bench/refuse.c; without cc it is left out
 
 What is owed is read in docs/FORMATS.md: bench/reader.py tells it of frames, and the cases tell it of the others. A line of the
 table is a case; the script ends with 1 where one came otherwise. Nothing goes to other addresses than 127.0.0.1 and ::1.
@@ -28,7 +29,7 @@ import time
 
 sys.dont_write_bytecode = True
 from capture import Ticket, plain_capture
-from failing import calls, memory, streams
+from failing import calls, memory, requests, streams
 from hostile import captures, datagrams, strangers
 from program import ONE_BYTE, RUN_SECONDS, SEED, Feed, Kk, Table, bound, cannot, frame, free, noise, run, sockets
 from reader import REFUSED, Reader
@@ -186,7 +187,7 @@ def gates(table, rng, _):
             process.wait()
 
 
-GROUPS = {it.__name__: it for it in (datagrams, captures, strangers, streams, addresses, signals, gates, calls, memory)}
+GROUPS = {it.__name__: it for it in (datagrams, captures, strangers, streams, addresses, signals, gates, calls, memory, requests)}
 
 
 def main():

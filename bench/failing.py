@@ -1,10 +1,11 @@
-"""Streams, calls of the system and memory that fail: the groups `streams`, `calls` and `memory` of bench/attack.py."""
+"""Streams, calls of the system and memory that fail: the groups `streams`, `calls`, `memory` and `requests` of bench/attack.py."""
 import contextlib
 import os
 import resource
 import shutil
 import signal
 import socket
+import subprocess
 import tempfile
 
 from capture import Ticket, plain_capture
@@ -288,10 +289,56 @@ def memory(table, rng, _):
     }
     for name, (words, source, usual) in runs.items():
         found, others = {}, []
-        for limit in [*range(2, 130, 2), *range(130, 1200, 40)]:
-            size = limit << 20
-            came = run(*words, stdin=source, before=lambda: resource.setrlimit(resource.RLIMIT_AS, (size, size)))
-            found[came[0]] = found.get(came[0], 0) + 1
-            if came[0] == 8 and came[1:] not in ((b"", b"memory\nstatus 8\n"), (b"", b"")) or came[0] not in (8, usual):
+        for limit in [*range(2_048, 8_192, 64), *range(8_192, 131_072, 4_096), *range(131_072, 1_200_000, 40_960)]:
+            came = run(*words, stdin=source, before=limited_memory(limit << 10))
+            how = "not loaded" if b"shared librar" in came[2] else came[0]
+            found[how] = found.get(how, 0) + 1
+            if how == 8 and came[1:] not in ((b"", b"memory\nstatus 8\n"), (b"", b"")) or how not in ("not loaded", 8, usual):
                 others.append((limit, came[0], came[2][-60:]))
         table.case(f"`{name}` with 2 to 1,200 MiB: ends otherwise", [], others[:3], f"by status {found}")
+    small_stacks(table)
+
+
+def small_stacks(table):
+    """Every command with a stack of 512 KiB, its threads too."""
+    size = 512 << 10
+    def before():
+        resource.setrlimit(resource.RLIMIT_STACK, (size, size))
+    for command, (words, source, file, report) in commands().items():
+        table.case(f"`{command}` with a stack of 512 KiB", (0, file, report), run(command, *words, stdin=source, before=before))
+    table.case("`recv` of one byte with a stack of 512 KiB", *received_byte(before=before))
+
+
+def limited_memory(size):
+    """Limits the address space of a process that is about to be the program."""
+    return lambda: resource.setrlimit(resource.RLIMIT_AS, (size, size))
+
+
+def requests(table, rng, _):
+    """Each request of the program for memory is refused in turn: it ends with 8, or as if none were."""
+    if not shutil.which("cc"):
+        print("| there is no cc: left out | | |")
+        return
+    with tempfile.TemporaryDirectory() as folder:
+        refuse = os.path.join(folder, "refuse.so")
+        source = os.path.join(os.path.dirname(os.path.realpath(__file__)), "refuse.c")
+        subprocess.run(["cc", "-O2", "-shared", "-fPIC", "-o", refuse, source], check=True)
+        for command in commands():
+            refused_requests(table, command, refuse)
+
+
+def refused_requests(table, command, refuse):
+    """Refuses the requests of a command in turn, until forty in a row change nothing."""
+    words, source, file, report = commands()[command]
+    found, others, number, unchanged = {}, [], 0, 0
+    while unchanged < 40 and number < 1_000:
+        number += 1
+        under = ["env", f"LD_PRELOAD={refuse}", f"REFUSE={number}"]
+        came = run(command, *words, stdin=source, under=under, seconds=10)
+        is_done = came == (0, file, report)
+        unchanged = unchanged + 1 if is_done else 0
+        if not is_done and came not in ((8, b"", b"memory\nstatus 8\n"), (8, b"", b"")):
+            others.append((number, came[0], came[2][-40:]))
+        found[came[0]] = found.get(came[0], 0) + 1
+    told = f"by status {found}, the last {unchanged} without a change"
+    table.case(f"`{command}`, each request refused: ends otherwise", [], others[:3] and [len(others), *others[:3]], told)
