@@ -9,7 +9,7 @@ use kk_outside::{StdSink, StdSource};
 use sockets::{Sockets, Unopened};
 use std::alloc::{AllocError, Global};
 use std::env;
-use std::io::Write;
+use std::io::{ErrorKind, Write};
 use std::process::ExitCode;
 
 /// The status for want of memory, met before there is a command to run.
@@ -23,6 +23,7 @@ const CANNOT_OPEN: u8 = 12;
 fn words(rt: &HostRuntime, alloc: Global) -> Result<Vec<String>, AllocError> {
     match env::args(rt) {
         Ok(args) => args.skip(1).collect(alloc),
+        Err(error) if error.kind() == ErrorKind::OutOfMemory => Err(AllocError),
         Err(_) => Ok(Vec::new(alloc)),
     }
 }
