@@ -86,17 +86,18 @@ fn finished_elsewhere<R: Threads + Sync>(
     logs
 }
 
-/// Inserts a row into generation 0. Whether this showed the pass as many rows as `new`, its own among them.
-fn insert_sees(table: &GenTable, pass: &mut Pass, row: Row, new: usize) -> bool
+/// Inserts a row into generation 0, with at most two accesses for each row that this shows the pass, its own among them,
+/// and two more. The reply, and how many rows it showed.
+fn insert_and_count(table: &GenTable, pass: &mut Pass, row: Row) -> (Inserted, usize)
     requires table { pass.old.table ≡ table.now }
     requires some { 0 < table.now.shape.generations }
     requires row { row.0 < 2 ^ table.now.shape.width }
     ensures table { pass.new.table ≡ pass.old.table }
-    ensures accesses { result ≡ true → pass.new.known.accesses ≤ pass.old.known.accesses + (2 * new + 2) }
+    ensures accesses { pass.new.known.accesses ≤ pass.old.known.accesses + (2 * result.1 + 2) }
 {
     let before = pass.rows_seen(0).len();
-    let _ = table.insert(pass, 0, row);
-    pass.rows_seen(0).len() - before == new
+    let told = table.insert(pass, 0, row);
+    (told, pass.rows_seen(0).len() - before)
 }
 
 #[test]
@@ -174,11 +175,12 @@ fn a_pass_that_is_out_holds_the_table(rt: HostRuntime) -> Result<(), Fail> {
 
 #[test]
 fn an_insert_reads_on_from_what_is_seen(rt: HostRuntime) -> Result<(), Fail> {
-    let shape = Shape {
-        generations: 1,
-        width: 6,
+    let Ok(ticket) = Ticket::read(TICKET) else {
+        panic!(rt; "no ticket")
     };
-    let (table, mut founder) = GenTable::with_shape(rt.alloc(), shape, 2)?;
+    let (table, mut founder) = GenTable::new(rt.alloc(), &ticket, 2)?;
+    let shape = table.shape();
+    assert!(rt; shape.generations == 3 && shape.width == 6);
     let (Ok(a), Ok(mut b)) = (
         founder.pass(rt.alloc(), &table),
         founder.pass(rt.alloc(), &table),
@@ -186,8 +188,11 @@ fn an_insert_reads_on_from_what_is_seen(rt: HostRuntime) -> Result<(), Fail> {
         panic!(rt; "no pass")
     };
     let a = add_rows(&table, a, &[Row(13), Row(17), Row(34)]);
-    assert!(rt; insert_sees(&table, &mut b, Row(8), 4));
-    assert!(rt; insert_sees(&table, &mut b, Row(5), 0));
+    // within 10 accesses, and within 2
+    let fourth = insert_and_count(&table, &mut b, Row(8));
+    let fifth = insert_and_count(&table, &mut b, Row(5));
+    assert_eq!(rt; fourth, (Inserted::Innovative { rank: 4 }, 4));
+    assert_eq!(rt; fifth, (Inserted::Redundant, 0));
     assert_eq!(rt;
         b.rows_seen(0),
         [Row(13), Row(17), Row(34), Row(8)].as_slice()
