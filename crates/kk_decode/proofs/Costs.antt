@@ -27,8 +27,5 @@ module _ (n : ℕ) where
   pub values_cost : (r k : ℕ) → r ≤ n → 2 * k ≤ n → r * (2 * k) ≤ n * n
   values_cost r k few short = mul-le r (2 * k) n n few short
 
-  pub map_cost : (m k : ℕ) → m ≤ n → 2 * k ≤ n → 2 * m * k ≤ n * n
-  map_cost m k field short = omega (arith, mul-le m (2 * k) n n field short)
-
   pub all_fits : (s : ℕ) → 3 ≤ n → s ≤ 192 * (n * n) → s ≤ 64 * n ^ 3
   all_fits s three few = omega (arith, few, three_squares n three)

@@ -64,7 +64,7 @@ pub fn decode_space<L: Ledger>(
     }
     give(code, tables, others, &mut interp, steps);
     let u = candidate(code, tables, &interp, steps)?;
-    if is_near(code, tables, space, &u, &mut scratch.map, steps) {
+    if is_near(code, tables, space, &u, steps) {
         Some(u)
     } else {
         None

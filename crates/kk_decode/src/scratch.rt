@@ -3,16 +3,14 @@ ghost use Rattle.std.specs.Prelude.{◌≡◌};
 
 use kk_code::Code;
 use kk_field::{Field, Ring};
-use kk_linpoly::LinMap;
 use kk_tables::FieldTables;
 
-/// The tables of the code's field, made once for many generations, and the map of the message that is tested last: 48 KB.
+/// The tables of the code's field, made once for many generations: 32 KB.
 ///
 /// It serves codes of any parameters one after another, and its content never changes an answer.
 #[derive(Drop)]
 pub struct Scratch {
     pub(crate) tables: FieldTables,
-    pub(crate) map: LinMap,
 }
 
 impl Scratch {
@@ -20,7 +18,6 @@ impl Scratch {
     pub fn new() -> Scratch {
         Scratch {
             tables: FieldTables::new(Field::of(Ring::new(2, 3))),
-            map: LinMap::new(),
         }
     }
 

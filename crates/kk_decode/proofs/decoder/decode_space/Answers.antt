@@ -14,7 +14,7 @@ use Rattle.kk_decode.specs.Solving.{point_of}
 use Rattle.kk_decode.proofs.Messages.{some_is, none_is_no_some}
 use Rattle.kk_decode.proofs.Reach.{rank_in_reach}
 use Rattle.kk_decode.proofs.Rows.{count_rows, points_of_all}
-use Rattle.kk_decode.proofs.Costs.{Sizes, points_cost, division_cost, values_cost, map_cost, all_fits}
+use Rattle.kk_decode.proofs.Costs.{Sizes, points_cost, division_cost, values_cost, all_fits}
 use Rattle.kk_decode.proofs.decoder.decode_space.Given.{Over}
 use Rattle.kk_decode.proofs.decoder.decode_space.Goals as goal
 use Rattle.kk_decode.proofs.decoder.decode_space.Goals.{After-rows, After-give, After-direct, After-give-2, After-candidate, After-from_residual, Else-is_near, Joined-then-rank-k, then-rank-k-via-then-rank-k, then-rank-k-via-else-rank-k+then-rank-l}
@@ -261,7 +261,7 @@ returns-then-is_near-clause-cost g c =
       others_cost g at.After-give-2 points (count g at.After-rows) size,
       candidate_cost g at.After-candidate (point_count g at.After-give-2) size,
       c.is_near.ensures.cost,
-      map_cost n c.args.code.now.field.degree c.args.code.now.k (omega arith) (omega (arith, c.k-k.ensures.symbols, size.symbols)),
+      values_cost n (dimension c.args.space.now.rows) c.args.code.now.k (omega (arith, c.rank-rank.ensures.dimension, size.rank)) (omega (arith, c.k-k.ensures.symbols, size.symbols)),
       all_fits n (74 * (n * n)) size.three (omega arith),
     )
 
@@ -278,6 +278,6 @@ returns-else-is_near-clause-cost g c =
       others_cost g at.After-give-2 points (count g at.After-rows) size,
       candidate_cost g at.After-candidate (point_count g at.After-give-2) size,
       c.is_near.ensures.cost,
-      map_cost n c.args.code.now.field.degree c.args.code.now.k (omega arith) (omega (arith, c.k-k.ensures.symbols, size.symbols)),
+      values_cost n (dimension c.args.space.now.rows) c.args.code.now.k (omega (arith, c.rank-rank.ensures.dimension, size.rank)) (omega (arith, c.k-k.ensures.symbols, size.symbols)),
       all_fits n (74 * (n * n)) size.three (omega arith),
     )

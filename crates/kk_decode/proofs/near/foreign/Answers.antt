@@ -1,6 +1,7 @@
-use Rattle.std.proofs.Common.{◌≡◌, ℕ, ◌+◌, ◌^◌, ◌<◌, List, [], ◌∷◌, ◌++◌, map, take, get_or, sym, ap, ap₂, ◌∙◌, subst, bit_xor, arith}
+use Rattle.std.proofs.Common.{◌≡◌, ℕ, ◌+◌, ◌*◌, ◌^◌, ◌<◌, ◌≤◌, List, [], ◌∷◌, ◌++◌, length, map, take, get_or, sym, ap, ap₂, ◌∙◌, subst, bit_xor, arith}
 use Rattle.std.specs.Prelude.{All}
 use Rattle.std.specs.Int.Bits.{xor_lt}
+use Rattle.std.proofs.lemmas.Nat.{mul-le}
 use Rattle.std.proofs.lemmas.List.{take_all, map-append}
 use Rattle.kk_rows.specs.Rows.{numbers}
 use Rattle.kk_rows.specs.Span.{in_span, dimension}
@@ -13,9 +14,10 @@ use Rattle.kk_linpoly.proofs.Values.{value-trimmed, value-lt}
 use Rattle.kk_code.specs.Codeword.{width}
 use Rattle.kk_decode.specs.Offset.{offset}
 use Rattle.kk_decode.proofs.Offsets.{IsAdditive-offset, meet_of_offsets}
+use Rattle.kk_decode.proofs.Rows.{count_rows}
 use Rattle.kk_decode.proofs.near.foreign.Given.{Over}
 use Rattle.kk_decode.proofs.near.foreign.Goals as goal
-use Rattle.kk_decode.proofs.near.foreign.Goals.{After-at, After-rows-row-items}
+use Rattle.kk_decode.proofs.near.foreign.Goals.{After-eval, After-rows-row-items}
 
 below : (g : Over) (c : After-rows-row-items g) → All (λ r. r < 2 ^ width c.args.code.now) c.args.space.now.rows
 below g c = subst (λ w. All (λ r. r < 2 ^ w) c.args.space.now.rows) c.requires.width c.rows-row-items.ensures.below
@@ -27,26 +29,28 @@ parts-x-requires g c =
     numbers_each P items c.loop-row.row-index
     (subst (All P) (sym c.rows-row-items.ensures.rows) (below g (goal.at.parts-x-requires g c).After-rows-row-items)) c.loop-row-test.true
 
--- the map takes the x-part to the value of the message's polynomial
-value_is : (g : Over) (c : After-at g) → c.at.result ≡ value c.args.code.now.field c.args.u.now c.parts-x.result.0
+-- the polynomial is that of the message
+value_is : (g : Over) (c : After-eval g) → c.eval.result ≡ value c.args.code.now.field c.args.u.now c.parts-x.result.0
 value_is g c =
     let f = c.args.code.now.field in
     let x = c.parts-x.result.0 in
-    let in_field : x < 2 ^ c.args.tables.now.degree = subst (λ f. x < 2 ^ f.degree) (sym c.requires.tables) c.parts-x.ensures.x_below in
-    c.at.ensures ∙ c.load.ensures.value x in_field
-    ∙ ap (λ f. value f c.from_slice.result x) c.requires.tables
-    ∙ ap (λ cs. value f cs x) c.from_slice.ensures.value
+    c.eval.ensures.value ∙ ap (λ f. value f c.from_slice-f.result x) c.requires.tables
+    ∙ ap (λ cs. value f cs x) c.from_slice-f.ensures.value
     ∙ value-trimmed f c.m.ensures.in_range.low c.symbols.result.now x
     ∙ ap (λ cs. value f cs x) c.symbols.ensures.symbols
+
+-- and has at most k coefficients
+short : (g : Over) (c : After-eval g) → length c.from_slice-f.result ≤ c.args.code.now.k
+short g c = omega (arith, c.from_slice-f.ensures.len, ap length c.symbols.ensures.symbols, c.requires.message.len)
 
 pub insert-requires : goal.insert-requires
 insert-requires g c =
     let f = c.args.code.now.field in
     let x = c.parts-x.result.0 in
-    let small : c.at.result < 2 ^ f.degree =
-    subst (λ y. y < 2 ^ f.degree) (sym (value_is g (goal.at.insert-requires g c).After-at)) (value-lt f c.m.ensures.in_range.low c.args.u.now x) in
-    subst (λ w. bit_xor c.parts-x.result.1 c.at.result < 2 ^ w) (sym c.loop-row.invariant.wide)
-    (xor_lt f.degree c.parts-x.result.1 c.at.result c.parts-x.ensures.y_below small)
+    let small : c.eval.result < 2 ^ f.degree =
+    subst (λ y. y < 2 ^ f.degree) (sym (value_is g (goal.at.insert-requires g c).After-eval)) (value-lt f c.m.ensures.in_range.low c.args.u.now x) in
+    subst (λ w. bit_xor c.parts-x.result.1 c.eval.result < 2 ^ w) (sym c.loop-row.invariant.wide)
+    (xor_lt f.degree c.parts-x.result.1 c.eval.result c.parts-x.ensures.y_below small)
 
 pub loop-row-preserved : goal.loop-row-preserved
 loop-row-preserved g c =
@@ -56,9 +60,9 @@ loop-row-preserved g c =
     let i = c.loop-row.row-index in
     let row = (get_or items i (record { 0 = 0 })).0 in
     let images : List ℕ → List ℕ = map (offset f u) in
-    let v = bit_xor c.parts-x.result.1 c.at.result in
+    let v = bit_xor c.parts-x.result.1 c.eval.result in
     let v_is : v ≡ offset f u row =
-    ap₂ bit_xor c.parts-x.ensures.y (value_is g (goal.at.loop-row-preserved g c).After-at ∙ ap (value f u) c.parts-x.ensures.x) in
+    ap₂ bit_xor c.parts-x.ensures.y (value_is g (goal.at.loop-row-preserved g c).After-eval ∙ ap (value f u) c.parts-x.ensures.x) in
     let more : images (numbers (take i items)) ++ v ∷ [] ≡ images (numbers (take (i + 1) items)) =
     ap (λ y. images (numbers (take i items)) ++ y ∷ []) v_is
     ∙ sym (map-append (offset f u) (numbers (take i items)) (row ∷ [])) ∙ ap images (sym (numbers-take_more items i c.loop-row-test.true)) in
@@ -66,6 +70,7 @@ loop-row-preserved g c =
       wide = c.insert.ensures.width ∙ c.loop-row.invariant.wide;
       span = λ x. in_span-inserted (images (numbers (take i items))) c.loop-row.offsets.rows c.insert.new.self.rows v c.loop-row.invariant.span c.insert.ensures.span x
           ∙ ap (λ l. in_span l x) more;
+      counted = omega (arith, c.loop-row.invariant.counted, c.eval.ensures.cost, short g (goal.at.loop-row-preserved g c).After-eval);
     }
 
 pub returns-clause-injected : goal.returns-clause-injected
@@ -88,3 +93,12 @@ returns-clause-injected g c =
       meet_of_offsets p low rows u (below g (goal.at.returns-clause-injected g c).After-rows-row-items),
       dimension-map (offset p.field u) (IsAdditive-offset p.field low u) rows,
     )
+
+-- a row more has at most two steps for each symbol
+pub returns-clause-cost : goal.returns-clause-cost
+returns-clause-cost g c =
+    let i = c.loop-row.row-index in
+    let k = 2 * c.args.code.now.k in
+    let count = count_rows c.rows-row-items.result.now c.args.space.now.rows c.rows-row-items.ensures.rows c.rows-row-items.ensures.reduced in
+    let rounds = mul-le i k (dimension c.args.space.now.rows) k (omega (arith, c.loop-row.auto.row-index-end, count)) (omega arith) in
+    omega (arith, c.loop-row.invariant.counted, rounds)

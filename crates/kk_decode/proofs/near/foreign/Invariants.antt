@@ -1,4 +1,4 @@
-use Rattle.std.proofs.Common.{◌≡◌, ℕ, take, map}
+use Rattle.std.proofs.Common.{◌≡◌, ℕ, ◌+◌, ◌*◌, ◌≤◌, take, map}
 use Rattle.kk_rows.specs.Span.{in_span}
 use Rattle.kk_rows.specs.Rows.{numbers}
 use Rattle.kk_decode.specs.Offset.{offset}
@@ -9,4 +9,5 @@ abbrev pub invariant-loop-row : goal.invariant-loop-row
 invariant-loop-row g l = record {
   wide : l.offsets.width ≡ l.code.field.degree;
   span : (x : ℕ) → in_span l.offsets.rows x ≡ in_span (map (offset l.code.field l.u) (numbers (take l.row-index l.row-items))) x;
+  counted : l.steps ≤ l.fn.steps + l.row-index * (2 * l.code.k);
 }
