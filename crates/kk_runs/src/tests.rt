@@ -1,5 +1,5 @@
 //! What the tests share: frames, captures, and the objects that a run is made over.
-ghost use Rattle.std.specs.Prelude.{◌≡◌, ◌<◌, ◌≤◌, [], IfOk, length};
+ghost use Rattle.std.specs.Prelude.{◌≡◌, ◌≤◌, [], IfOk, length};
 
 mod failing;
 mod memory;

@@ -1,5 +1,5 @@
 //! `recv` over gates in memory, and over two gates that wait for each other.
-ghost use Rattle.std.specs.Prelude.{◌≡◌, ◌≤◌, All, IfOk, None, length};
+ghost use Rattle.std.specs.Prelude.{◌≡◌, IfOk, None, length};
 ghost use Rattle.kk_outside.specs.Gate.{FitsGate};
 
 use super::{ONE_BYTE, Outcome, Setting, expect, frame, outcome_over, unfailing};

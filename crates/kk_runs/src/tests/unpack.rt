@@ -2,8 +2,8 @@
 ghost use Rattle.std.specs.Prelude.{◌<◌};
 
 use super::{
-    FIVE, ONE_BYTE, Setting, ZERO, capture, expect, frame, front, outcome_of, run_over, sink_of,
-    texts, unfailing,
+    FIVE, ONE_BYTE, Setting, ZERO, capture, expect, frame, front, outcome_of, sink_of, texts,
+    unfailing,
 };
 use kk_outside::{Alloc, MemoryGate, MemoryOutlet, Source, StdSource};
 use kk_top::run;
