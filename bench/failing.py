@@ -243,17 +243,23 @@ def refused_receives(table, rng):
             table.case(f"`{command}`, receive {when} refused with {error}", wanted, came)
 
 
+# The program holds so many sockets that it doesn't use while it opens its own.
+PLACEHOLDERS = 3
+
+
 def refused_at_the_start(table):
     """Sockets and threads that the system doesn't give."""
     hears, target = free(2), free()
     quiet = Reader(Ticket(ONE_BYTE), 2)
     quiet.ended = ["idle", "idle"]
     for call, error in (("socket", "EMFILE"), ("bind", "EACCES"), ("setsockopt", "ENOPROTOOPT")):
+        came = run("recv", ONE_BYTE, *hears, "--idle", "1", under=inject(call, error, 1))
+        table.case(f"`recv` at two addresses, {call} of a placeholder refused", quiet.owed(), came)
         for number in (1, 2):
-            came = run("recv", ONE_BYTE, *hears, "--idle", "1", under=inject(call, error, number))
+            came = run("recv", ONE_BYTE, *hears, "--idle", "1", under=inject(call, error, PLACEHOLDERS + number))
             table.case(f"`recv` at two addresses, {call} {number} refused", cannot(hears[number - 1]), came)
     for call, error in (("socket", "EMFILE"), ("bind", "EADDRINUSE")):
-        came = run("send", ONE_BYTE, *target, *SEED, stdin=b"\xa0", under=inject(call, error, 1))
+        came = run("send", ONE_BYTE, *target, *SEED, stdin=b"\xa0", under=inject(call, error, PLACEHOLDERS + 1))
         table.case(f"`send`, {call} refused", cannot(target[0]), came)
     for number in ("1", "2", "1+"):
         came = run("recv", ONE_BYTE, *hears, "--idle", "1", under=inject("clone3,clone", "EAGAIN", number))
