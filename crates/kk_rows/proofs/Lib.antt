@@ -13,3 +13,5 @@ pub mod Traces
 pub mod AdditiveMaps
 pub mod Combinations
 pub mod Examples
+pub mod Insertions
+pub mod Leads

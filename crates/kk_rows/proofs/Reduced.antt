@@ -10,7 +10,7 @@ use Rattle.std.proofs.lemmas.List.{append_assoc, get_or-map, length-map}
 use Rattle.std.proofs.lemmas.List.Elements.{All-nil, All-cons, All-head, All-tail, All-append, All-map}
 use Rattle.std.proofs.lemmas.List.Kept.{AllPairs-cons}
 use Rattle.kk_rows.specs.Span.{in_span, innovative_behind, dimension}
-use Rattle.kk_rows.specs.Echelon.{IsLeadingBit, IsClearAt, IsClear, LeadsAbove, IsReduced, cleared}
+use Rattle.kk_rows.specs.Echelon.{IsLeadingBit, IsClearAt, IsClear, LeadsAbove, IsReduced, HasLeads, cleared}
 use Rattle.kk_rows.proofs.Sums.{xor_twice_left, xor_swap}
 use Rattle.kk_rows.proofs.Spans.{same_bool, in_span-zero, in_span_skip, in_span_use, in_span_cases, in_span-nil, in_span-least, in_span-xor, in_span-xor_back, in_span-head, in_span-each, in_span-within, in_span-append_left, in_span-append_right, in_span-append_least, in_span-push_skip, in_span-push_itself}
 use Rattle.kk_rows.proofs.Dimensions.{dimension-le_width, innovative_behind_outside, innovative_behind-nil}
@@ -85,7 +85,7 @@ IsClearAt-xor row a b ha hb = λ p lead. bit_zero_zero a b p (ha p lead) (hb p l
 pub cleared_either : (v row : ℕ) → (cleared v row ≡ v) ⊎ (cleared v row ≡ bit_xor v row)
 cleared_either v row = elim (cases_lt v (bit_xor v row)) [ inl k ↦ inl (omega arith) | inr k ↦ inr (omega arith) ]
 
-cleared_at : (row p v : ℕ) → IsLeadingBit row p → ((bit_at v p ≡ 0) × (cleared v row ≡ v)) ⊎ ((bit_at v p ≡ 1) × (cleared v row ≡ bit_xor v row))
+pub cleared_at : (row p v : ℕ) → IsLeadingBit row p → ((bit_at v p ≡ 0) × (cleared v row ≡ v)) ⊎ ((bit_at v p ≡ 1) × (cleared v row ≡ bit_xor v row))
 cleared_at row p v lead = elim (bit_cases v p) [
   | inl e ↦ let lt = lt-xor row p v lead e in inl (e, omega arith)
   | inr e ↦ let gt = gt-xor row p v lead e in inr (e, omega arith)
@@ -178,7 +178,7 @@ lead_order upper lower p q hp hq le apart = elim (cases_order q p) [
 ]
 
 module _ (w : ℕ) (some : 0 < w) where
-  lead_kept : (r p : ℕ) → IsClearAt r w → IsLeadingBit r p → IsLeadingBit (cleared r w) p
+  pub lead_kept : (r p : ℕ) → IsClearAt r w → IsLeadingBit r p → IsLeadingBit (cleared r w) p
   lead_kept r p clear lead =
       let top = leading_bit w some in
       elim (cleared_at w top.0 r top.1) [
@@ -297,6 +297,16 @@ inserted_below n w small rows front back each split =
     let kept : All P (front ++ back) = subst (All P) split (All-map P (λ r. cleared r w) rows (λ k d lt. let e = each k d lt in omega arith)) in
     let parts = All-parts P front back kept in
     All-append P front (w ∷ back) parts.0 (All-cons P w back small parts.1)
+
+-- the rows keep their leading bits
+pub inserted_leads : (leads w : ℕ) → 0 < w → (rows front back : List ℕ) → IsReduced rows → IsClear rows w → map (λ r. cleared r w) rows ≡ front ++ back
+    → HasLeads leads rows → HasLeads leads (w ∷ []) → HasLeads leads (front ++ w ∷ back)
+inserted_leads leads w some rows front back h clear split old new =
+    let P : ℕ → Type 0 = λ r. (p : ℕ) → IsLeadingBit r p → bit_at leads p ≡ 1 in
+    let kept : All P (front ++ back) = subst (All P) split (All-map P (λ r. cleared r w) rows
+    (λ k d lt p lead. old k d lt p (lead_kept_back w some (get_or rows k d) p (h.nonzero k d lt) (clear k d lt) lead))) in
+    let parts = All-parts P front back kept in
+    All-append P front (w ∷ back) parts.0 (All-cons P w back (All-head P w [] new) parts.1)
 
 -- the span is that of the old rows and v, where w is what the rows leave of v
 pub inserted_spans : (w v : ℕ) (rows front back : List ℕ) → in_span rows (bit_xor v w) ≡ true → map (λ r. cleared r w) rows ≡ front ++ back → (x : ℕ) → in_span (front ++ w ∷ back) x ≡ in_span (rows ++ v ∷ []) x

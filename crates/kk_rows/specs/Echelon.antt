@@ -15,6 +15,10 @@ IsClearAt row v = (p : ℕ) → IsLeadingBit row p → bit_at v p ≡ 0
 abbrev pub IsClear : List ℕ → ℕ → Type 0
 IsClear rows v = All (λ row. IsClearAt row v) rows
 
+-- every bit that leads one of the rows is 1 in `leads`
+abbrev pub HasLeads : ℕ → List ℕ → Type 0
+HasLeads leads rows = All (λ row. (p : ℕ) → IsLeadingBit row p → bit_at leads p ≡ 1) rows
+
 -- the bit that leads the upper row stands above the one that leads the lower
 abbrev pub LeadsAbove : ℕ → ℕ → Type 0
 LeadsAbove upper lower = (p q : ℕ) → IsLeadingBit upper p → IsLeadingBit lower q → q < p

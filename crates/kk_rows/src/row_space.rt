@@ -16,26 +16,31 @@ pub const MAX_WIDTH: u32 = 63;
 
 /// The span of the rows inserted so far, in the space of the rows below 2^width.
 ///
-/// It keeps the reduced row echelon form of the span, by Gauss-Jordan elimination, one row at a time. No call looks for a
-/// leading bit: a row's leading bit is 1 in `v` exactly where the sum of `v` and the row is less than `v`. So
-/// [`RowSpace::reduce`] takes one exclusive or and one comparison a row, and [`RowSpace::insert`] about three times that.
+/// It keeps the reduced row echelon form of the span, by Gauss-Jordan elimination, one row at a time. No row is searched for
+/// its leading bit: that is 1 in `v` exactly where the sum of `v` and the row is less than `v`. So
+/// [`RowSpace::reduce`] takes one exclusive or and one comparison a row, and [`RowSpace::insert`] as much again for each row
+/// above the new one. The rows stand at the end of their array: those above move one place to the front as they are cleared,
+/// and those below stay as they are. So rows of a codeword, each of which leads above the last, move none, and as each has a
+/// leading bit that the others don't have, a look at all leading bits at once shows that nothing is to be cleared.
 #[derive(Clone, Debug, Drop)]
 pub struct RowSpace {
     width: u32,
     rank: u32,
+    // 1 at the leading bit of each row
+    leads: u64,
     rows: [Row; MAX_WIDTH as usize],
 }
 
 impl Model for RowSpace {
-    ghost use Rattle.std.specs.Prelude.{take};
+    ghost use Rattle.std.specs.Prelude.{◌-◌, drop};
     ghost use Rattle.kk_rows.specs.Rows.{numbers};
     ghost use Rattle.kk_rows.specs.Space.{Space, IsRowSpace};
 
     ghost Value = { Space };
 
-    ghost view = { λ s. record { width = s.width; rows = numbers (take s.rank s.rows) } };
+    ghost view = { λ s. record { width = s.width; rows = numbers (drop (63 - s.rank) s.rows) } };
 
-    ghost invariant = { λ s. IsRowSpace s.width s.rank (numbers (take s.rank s.rows)) };
+    ghost invariant = { λ s. IsRowSpace s.width s.rank s.leads (numbers (drop (63 - s.rank) s.rows)) };
 }
 
 impl RowSpace {
@@ -49,6 +54,7 @@ impl RowSpace {
         RowSpace {
             width: n,
             rank: 0,
+            leads: 0,
             rows: [Row(0); MAX_WIDTH as usize],
         }
     }
@@ -77,7 +83,7 @@ impl RowSpace {
         ensures reduced { IsReduced self.now.rows }
         ensures below { All (λ row. row < 2 ^ self.now.width) self.now.rows }
     {
-        &self.rows[..self.rank as usize]
+        &self.rows[(MAX_WIDTH - self.rank) as usize..]
     }
 
     /// What the span leaves of `v`, which is below 2^width: `v` with each leading bit of [`RowSpace::rows`] made 0 by
@@ -89,7 +95,10 @@ impl RowSpace {
         ensures zero { result.0 ≡ 0 ↔ IsTrue (in_span self.now.rows v.0) }
         ensures below { result.0 < 2 ^ self.now.width }
     {
-        remainder(&self.rows[..self.rank as usize], v)
+        if v.0 & self.leads == 0 {
+            return v;
+        }
+        remainder(&self.rows[(MAX_WIDTH - self.rank) as usize..], v)
     }
 
     /// Whether `v`, which is below 2^width, is a sum of rows of the space.
@@ -115,7 +124,9 @@ impl RowSpace {
         if remainder.0 == 0 {
             return None;
         }
-        insert_row(&mut self.rows[..self.rank as usize + 1], remainder);
+        let start = (MAX_WIDTH - self.rank) as usize;
+        insert_row(&mut self.rows[start - 1..], remainder);
+        self.leads |= 1 << remainder.0.ilog2();
         self.rank += 1;
         Some(self.rank)
     }
@@ -130,6 +141,7 @@ impl RowSpace {
         let mut sum = RowSpace {
             width: a.width,
             rank: a.rank,
+            leads: a.leads,
             rows: a.rows,
         };
         for row in b.rows() {

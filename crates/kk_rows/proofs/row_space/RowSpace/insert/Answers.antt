@@ -1,15 +1,19 @@
-use Rattle.std.proofs.Common.{◌≡◌, ◌+◌, ◌-◌, ◌++◌, ◌∷◌, [], ◌<◌, ◌≤◌, ◌^◌, false, length, take, arith, sym, ap, ◌∙◌, subst, refl}
+use Rattle.std.proofs.Common.{◌≡◌, ℕ, add-one, ◌+◌, ◌-◌, ◌++◌, ◌∷◌, [], ◌*◌, ◌%◌, ◌<◌, ◌^◌, false, length, drop, arith, sym, ap, ◌∙◌, subst, refl}
 use Rattle.std.specs.Prelude.{All}
+use Rattle.std.specs.Int.Bits.{bit_or}
+use Rattle.std.proofs.Math.Nat.{two-pow-succ}
 use Rattle.std.proofs.lemmas.Bool.{false_from_ne_true}
-use Rattle.std.proofs.lemmas.List.{take_at, length-take-le, length-map}
+use Rattle.std.proofs.lemmas.List.{drop-drop, length-drop, length-map}
 use Rattle.kk_rows.specs.Rows.{numbers}
 use Rattle.kk_rows.specs.declared.rows.Row.{Row}
+use borrow.Rule.Slice.PartMut.{mid_of, put_mid}
 use Rattle.kk_rows.specs.Span.{in_span, dimension}
 use Rattle.kk_rows.specs.Space.{Space, IsRowSpace}
-use Rattle.kk_rows.specs.Echelon.{IsReduced, IsClear}
+use Rattle.kk_rows.specs.Echelon.{IsReduced, IsClear, HasLeads}
 use Rattle.kk_rows.proofs.Spans.{in_span-push_inside, in_span-push_shifted}
 use Rattle.kk_rows.proofs.Reduced.{dimension_reduced}
-use Rattle.kk_rows.proofs.RowLists.{room_left, taken_front, grown_is_row_space}
+use Rattle.kk_rows.proofs.Leads.{more_leads, one_more_lead}
+use Rattle.kk_rows.proofs.RowLists.{mid_to_end, drop-put_to_end, room_left, grown_is_row_space}
 use Rattle.kk_rows.proofs.row_space.RowSpace.insert.Goals as goal
 use Rattle.kk_rows.proofs.row_space.RowSpace.insert.Goals.{Else-remainder-eq0, After-insert_row}
 
@@ -18,24 +22,26 @@ has_room : (c : Else-remainder-eq0) → c.self.inside.rank < c.self.inside.width
 has_room c =
     let outside : in_span c.args.self.now.rows c.args.v.0 ≡ false = false_from_ne_true _ (λ k. c.if-remainder-eq0.false (c.reduce-remainder.ensures.zero.1 k)) in
     let small = subst (λ (s : Space). c.args.v.0 < 2 ^ s.width) (sym c.self.view_is) c.requires in
-    room_left c.self.inside.width c.self.inside.rank _ c.args.v.0 c.self.invariant small
+    room_left c.self.inside.width c.self.inside.rank c.self.inside.leads _ c.args.v.0 c.self.invariant small
     (subst (λ (s : Space). in_span s.rows c.args.v.0 ≡ false) (sym c.self.view_is) outside)
 
-front_is : (c : Else-remainder-eq0) → take (length (take (c.self.inside.rank + 1) c.self.inside.rows) - 1) (take (c.self.inside.rank + 1) c.self.inside.rows) ≡ take c.self.inside.rank c.self.inside.rows
+-- the rows after the free place are those of the space
+front_is : (c : Else-remainder-eq0) → drop 1 (mid_of (63 - c.self.inside.rank - 1) (63 - (63 - c.self.inside.rank - 1)) c.self.inside.rows) ≡ drop (63 - c.self.inside.rank) c.self.inside.rows
 front_is c =
     let room = has_room c in
     let len : length c.self.inside.rows ≡ 63 = omega arith in
-    taken_front c.self.inside.rows c.self.inside.rank (omega (arith, c.self.invariant.width_fits))
+    let place : 63 - c.self.inside.rank - 1 + 1 ≡ 63 - c.self.inside.rank = omega (arith, room, c.self.invariant.width_fits) in
+    ap (λ l. drop 1 l) (mid_to_end c.self.inside.rows 63 (63 - c.self.inside.rank - 1) len)
+    ∙ drop-drop 1 (63 - c.self.inside.rank - 1) c.self.inside.rows ∙ ap (λ k. drop k c.self.inside.rows) place
+
+pub overflow_sub-start-2 : goal.overflow_sub-start-2
+overflow_sub-start-2 c =
+    let room = has_room (goal.at.overflow_sub-start-2 c).Else-remainder-eq0 in
+    omega (arith, room, c.self.invariant.width_fits)
 
 pub returns-then-remainder-eq0-clause-span : goal.returns-then-remainder-eq0-clause-span
 returns-then-remainder-eq0-clause-span c =
     λ x. sym (in_span-push_inside c.args.self.now.rows c.args.v.0 (c.reduce-remainder.ensures.zero.0 c.if-remainder-eq0.true) x)
-
-pub slice_bounds-insert_row-end : goal.slice_bounds-insert_row-end
-slice_bounds-insert_row-end c =
-    let room = has_room (goal.at.slice_bounds-insert_row-end c).Else-remainder-eq0 in
-    let fits : c.self.inside.rank + 1 ≤ 63 = omega (arith, c.self.invariant.width_fits) in
-    fits
 
 pub insert_row-requires-clause-reduced : goal.insert_row-requires-clause-reduced
 insert_row-requires-clause-reduced c =
@@ -48,23 +54,48 @@ insert_row-requires-clause-clear c =
     subst (λ l. IsClear (numbers l) c.reduce-remainder.result.0) (sym front)
     (subst (λ (s : Space). IsClear s.rows c.reduce-remainder.result.0) (sym c.self.view_is) c.reduce-remainder.ensures.clear)
 
--- the rows with the new one fill the part of the array that was passed
-length_new : (before : Else-remainder-eq0) (c : After-insert_row) → before.self.inside ≡ c.self.inside → length c.insert_row.new.rows ≡ length (take (c.self.inside.rank + 1) c.self.inside.rows) → length c.insert_row.new.rows ≡ c.self.inside.rank + 1
+-- the rows with the new one are the end of the array
+end_is : (before : Else-remainder-eq0) (c : After-insert_row) → before.self.inside ≡ c.self.inside
+    → drop (63 - (c.self.inside.rank + 1)) (put_mid (63 - c.self.inside.rank - 1) (63 - (63 - c.self.inside.rank - 1)) c.self.inside.rows c.insert_row.new.rows) ≡ c.insert_row.new.rows
+end_is before c same =
+    let rank = c.self.inside.rank in
+    let len : length c.self.inside.rows ≡ 63 = omega arith in
+    let place : 63 - (rank + 1) ≡ 63 - rank - 1 = omega arith in
+    ap (λ k. drop k (put_mid (63 - rank - 1) (63 - (63 - rank - 1)) c.self.inside.rows c.insert_row.new.rows)) place
+    ∙ drop-put_to_end c.self.inside.rows c.insert_row.new.rows 63 (63 - rank - 1) len (omega arith)
+
+-- and are as many as the new rank
+length_new : (before : Else-remainder-eq0) (c : After-insert_row) → before.self.inside ≡ c.self.inside
+    → length c.insert_row.new.rows ≡ length (mid_of (63 - c.self.inside.rank - 1) (63 - (63 - c.self.inside.rank - 1)) c.self.inside.rows) → length c.insert_row.new.rows ≡ c.self.inside.rank + 1
 length_new before c same kept =
     let room = subst (λ s. s.rank < s.width) same (has_room before) in
+    let rank = c.self.inside.rank in
     let len : length c.self.inside.rows ≡ 63 = omega arith in
-    kept ∙ length-take-le (c.self.inside.rank + 1) c.self.inside.rows (omega (arith, c.self.invariant.width_fits))
+    kept ∙ ap (λ l. length l) (mid_to_end c.self.inside.rows 63 (63 - rank - 1) len) ∙ length-drop (63 - rank - 1) c.self.inside.rows
+    ∙ omega (arith, len, room, c.self.invariant.width_fits)
+
+two_times : (q : ℕ) → 2 * 2 ^ q ≡ 2 ^ (q + 1)
+two_times q = omega (arith, two-pow-succ q, ap (λ n. 2 ^ n) (add-one q))
 
 pub invariant_of-self : goal.invariant_of-self
 invariant_of-self c =
     let before = (goal.at.invariant_of-self c).Else-remainder-eq0 in
+    let after = (goal.at.invariant_of-self c).After-insert_row in
     let room = has_room before in
-    let len = length_new before (goal.at.invariant_of-self c).After-insert_row refl c.insert_row.auto.rows in
+    let len = length_new before after refl c.insert_row.auto.rows in
     let front = front_is before in
     let small = subst (λ (s : Space). c.reduce-remainder.result.0 < 2 ^ s.width) (sym c.self.view_is) c.reduce-remainder.ensures.below in
     let below = c.insert_row.ensures.below c.self.inside.width (subst (λ l. All (λ r. r < 2 ^ c.self.inside.width) (numbers l)) (sym front) c.self.invariant.below) small in
-    subst (λ l. IsRowSpace c.self.inside.width (c.self.inside.rank + 1) (numbers l)) (sym (take_at c.insert_row.new.rows _ (c.self.inside.rank + 1) len))
-    (grown_is_row_space c.self.inside.width c.self.inside.rank _ c.insert_row.new.rows c.self.invariant room len below c.insert_row.ensures.reduced)
+    let q = c.ilog2.result in
+    let w = c.reduce-remainder.result.0 in
+    let leads = bit_or c.self.inside.leads (1 * 2 ^ q % 2 ^ 64) in
+    let rows = drop (63 - c.self.inside.rank) c.self.inside.rows in
+    let old : HasLeads leads (numbers rows) = more_leads c.self.inside.leads (1 * 2 ^ q % 2 ^ 64) (numbers rows) c.self.invariant.led in
+    let few : q < 64 = omega (arith, c.ilog2.ensures.bound) in
+    let led : HasLeads leads (numbers c.insert_row.new.rows) = c.insert_row.ensures.leads leads (subst (λ l. HasLeads leads (numbers l)) (sym front) old)
+    (one_more_lead c.self.inside.leads w q few c.ilog2.ensures.power_le (subst (λ n. w < n) (two_times q) c.ilog2.ensures.next_power_gt)) in
+    subst (λ l. IsRowSpace c.self.inside.width (c.self.inside.rank + 1) leads (numbers l)) (sym (end_is before after refl))
+    (grown_is_row_space c.self.inside.width c.self.inside.rank c.self.inside.leads leads _ c.insert_row.new.rows c.self.invariant room len below c.insert_row.ensures.reduced led)
 
 pub returns-clause-rank : goal.returns-clause-rank
 returns-clause-rank c =
@@ -73,17 +104,19 @@ returns-clause-rank c =
 
 pub returns-clause-new_rank : goal.returns-clause-new_rank
 returns-clause-new_rank c =
-    let len = length_new (goal.at.returns-clause-new_rank c).Else-remainder-eq0 (goal.at.returns-clause-new_rank c).After-insert_row refl c.insert_row.auto.rows in
+    let before = (goal.at.returns-clause-new_rank c).Else-remainder-eq0 in
+    let after = (goal.at.returns-clause-new_rank c).After-insert_row in
+    let len = length_new before after refl c.insert_row.auto.rows in
     let now = dimension_reduced (numbers c.insert_row.new.rows) c.insert_row.ensures.reduced in
-    sym (ap (λ l. dimension (numbers l)) (take_at c.insert_row.new.rows _ (c.self.inside.rank + 1) len) ∙ now ∙ length-map c.insert_row.new.rows (λ (row : Row). row.0) ∙ len)
+    sym (ap (λ l. dimension (numbers l)) (end_is before after refl) ∙ now ∙ length-map c.insert_row.new.rows (λ (row : Row). row.0) ∙ len)
 
 pub returns-clause-span : goal.returns-clause-span
 returns-clause-span c =
     let before = (goal.at.returns-clause-span c).Else-remainder-eq0 in
-    let len = length_new before (goal.at.returns-clause-span c).After-insert_row refl c.insert_row.auto.rows in
+    let after = (goal.at.returns-clause-span c).After-insert_row in
     let front = front_is before in
     let viewed = ap (λ (s : Space). s.rows) c.self.view_is in
-    λ x. ap (λ l. in_span (numbers l) x) (take_at c.insert_row.new.rows _ (c.self.inside.rank + 1) len)
+    λ x. ap (λ l. in_span (numbers l) x) (end_is before after refl)
     ∙ c.insert_row.ensures.span x
     ∙ ap (λ l. in_span (numbers l ++ c.reduce-remainder.result.0 ∷ []) x) front
     ∙ ap (λ l. in_span (l ++ c.reduce-remainder.result.0 ∷ []) x) viewed
