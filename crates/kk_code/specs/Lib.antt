@@ -1,5 +1,6 @@
 pub mod Codeword
 pub mod Limits
+pub mod Encoder
 pub mod Decoding
 pub mod Ticket
 pub mod TicketText

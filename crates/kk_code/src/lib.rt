@@ -4,19 +4,23 @@
 mod bad_params;
 mod code;
 mod encoder;
+mod encoding;
 mod fault;
 pub mod laws;
 mod message;
 mod metric;
 mod modulus;
+mod multiples;
 mod parts;
 mod rows;
+mod terms;
 mod ticket;
 mod writing;
 
 pub use bad_params::BadParams;
 pub use code::Code;
-pub use encoder::{encode, encode_with};
+pub use encoder::Encoder;
+pub use encoding::{encode, encode_with};
 pub use fault::TicketFault;
 pub use message::Message;
 pub use metric::distance;

@@ -2,9 +2,10 @@
 ghost use Rattle.std.specs.Prelude.{◌≡◌, ◌<◌, ◌≤◌, length};
 ghost use Rattle.kk_code.specs.Codeword.{IsMessage, codeword};
 
-use crate::{Code, CodeRows, Message, Ticket, TicketFault, check_modulus, encode};
+use crate::{Code, CodeRows, Encoder, Message, Ticket, TicketFault, check_modulus, encode};
 use kk_field::Steps;
-use kk_rows::Row;
+use kk_rows::{Alloc, Row};
+use std::alloc::Global;
 use std::marker::Brand;
 use std::sync::ledger::{Blank, Ledger};
 use std::test::Fail;
@@ -38,6 +39,29 @@ fn the_codeword_of_five_has_rows_13_17_34(rt: HostRuntime) -> Result<(), Fail> {
     let ticket = Ticket::read(ONE_BYTE)?;
     let rows = rows_of_symbol::<Brand>(&ticket, 5, Blank::new(1)).ok_or("no message")?;
     assert_eq!(rt; rows.as_slice(), [Row(13), Row(17), Row(34)].as_slice());
+    Ok(())
+}
+
+/// The codeword of a message of two symbols, by tables.
+fn rows_by_tables(
+    alloc: Global,
+    ticket: &Ticket,
+    symbols: (u64, u64),
+) -> Result<Option<CodeRows>, Alloc> {
+    let code = ticket.code();
+    let m = code.m();
+    if code.k() != 2 || symbols.0 >> m != 0 || symbols.1 >> m != 0 {
+        return Ok(None);
+    }
+    let encoder = Encoder::new(alloc, &code)?;
+    Ok(Some(encoder.encode(&Message::from_slice(&[symbols.0, symbols.1]))))
+}
+
+#[test]
+fn tables_give_the_codeword_of_five_and_one(rt: HostRuntime) -> Result<(), Fail> {
+    let ticket = Ticket::read("kk1:00000001:3:0000000000000003:3:2:1")?;
+    let rows = rows_by_tables(rt.alloc(), &ticket, (5, 1))?.ok_or("no message")?;
+    assert_eq!(rt; rows.as_slice(), [Row(12), Row(21), Row(36)].as_slice());
     Ok(())
 }
 

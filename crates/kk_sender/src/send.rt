@@ -18,16 +18,12 @@ use crate::datagram::Datagram;
 use crate::rows::{MAX_EXTRA, SentRows};
 use crate::{SendFault, read_file, room_for_file};
 use kk_assemble::cut;
-use kk_code::{Ticket, encode_with};
-use kk_field::Steps;
+use kk_code::{Encoder, Ticket};
 use kk_frame::{FRAME_BYTES, Frame, MAX_DATAGRAM_FRAMES, write_frame};
 use kk_outside::{Failed, Outlet, Source};
 use kk_rows::Row;
-use kk_tables::FieldTables;
 use rand_core::Rng;
 use std::alloc::Global;
-use std::marker::Brand;
-use std::sync::ledger::{Blank, Ledger};
 
 /// How much was sent.
 #[derive(Clone, Copy, Debug, PartialEq, Eq)]
@@ -89,9 +85,12 @@ pub fn send_all<S: Source, R: Rng, O: Outlet>(
     let Ok(mut room) = room_for_file(alloc, ticket) else {
         return Err(SendFault::Alloc);
     };
+    let Ok(encoder) = Encoder::new(alloc, &ticket.code()) else {
+        return Err(SendFault::Alloc);
+    };
     read_file(source, &mut room)?;
     let file = &room[..ticket.length() as usize];
-    let sent = send_file::<Brand, R, O>(ticket, file, rng, extra, pack, outlet, Blank::new(1));
+    let sent = send_file(ticket, &encoder, file, rng, extra, pack, outlet);
     match sent {
         Ok(()) => Ok(Sent::of(ticket, extra, pack)),
         Err(_) => Err(SendFault::Outlet),
@@ -115,19 +114,17 @@ impl Sent {
     }
 }
 
-/// Sends a file that is in memory, with a step counter of its own.
-fn send_file<L: Ledger, R: Rng, O: Outlet>(
+/// Sends a file that is in memory, encoded by the encoder of the ticket's code.
+fn send_file<R: Rng, O: Outlet>(
     ticket: &Ticket,
+    encoder: &Encoder,
     file: &[u8],
     rng: &mut R,
     extra: u32,
     pack: u32,
     outlet: &mut O,
-    blank: Blank,
 ) -> Result<(), Failed>
-    requires name { blank.name ≡ L.name }
-    requires parts { blank.parts ≡ L.parts }
-    requires counts { 0 < blank.parts }
+    requires encoder { encoder.now ≡ ticket.now.code }
     requires whole { length file.now ≡ ticket.now.length }
     requires extra { extra ≤ MAX_EXTRA }
     requires some { 1 ≤ pack }
@@ -139,13 +136,10 @@ fn send_file<L: Ledger, R: Rng, O: Outlet>(
     ensures cause { HasCause (O.told outlet.old).faults (O.told outlet.new).faults result }
     ensures words { OnOk result (R.stream rng.new ≡ after_words (generations ticket.now * extra) (R.stream rng.old)) }
 {
-    let code = ticket.code();
-    let tables = FieldTables::new(code.field());
-    let mut steps = Steps::<L>::new(blank);
     let mut datagram = Datagram::new(pack);
     for generation in 0..ticket.generations() {
         let message = cut(file, ticket, generation);
-        let codeword = encode_with(&tables, &code, &message, &mut steps);
+        let codeword = encoder.encode(&message);
         let rows = SentRows::new(&codeword, extra, rng);
         push_rows(rows.as_slice(), generation, ticket, &mut datagram, outlet)?;
     }

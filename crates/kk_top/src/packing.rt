@@ -13,36 +13,28 @@ ghost use Rattle.kk_top.specs.Block.{Adds};
 
 use crate::block::Block;
 use kk_assemble::cut;
-use kk_code::{Ticket, encode_with};
-use kk_field::Steps;
+use kk_code::{Encoder, Ticket};
 use kk_frame::{FRAME_BYTES, Frame, write_frame};
 use kk_outside::{Failed, Sink};
 use kk_rows::Row;
-use kk_tables::FieldTables;
-use std::sync::ledger::{Blank, Ledger};
 
-/// Writes the capture of a file that is in memory: the rows of all its codewords as frames, and END. It has a step counter
-/// of its own. After `Failed` nothing more is written.
-pub(crate) fn write_capture<L: Ledger, K: Sink>(
+/// Writes the capture of a file that is in memory: the rows of all its codewords as frames, and END. After `Failed` nothing
+/// more is written.
+pub(crate) fn write_capture<K: Sink>(
     ticket: &Ticket,
+    encoder: &Encoder,
     file: &[u8],
     sink: &mut K,
-    blank: Blank,
 ) -> Result<(), Failed>
-    requires name { blank.name ≡ L.name }
-    requires parts { blank.parts ≡ L.parts }
-    requires counts { 0 < blank.parts }
+    requires encoder { encoder.now ≡ ticket.now.code }
     requires whole { length file.now ≡ ticket.now.length }
     ensures writes { WritesAllTo (change (K.told sink.old) (K.told sink.new)) result (packed ticket.now file.now) }
     ensures cause { HasCause (K.told sink.old).faults (K.told sink.new).faults result }
 {
-    let code = ticket.code();
-    let tables = FieldTables::new(code.field());
-    let mut steps = Steps::<L>::new(blank);
     let mut block = Block::new();
     for generation in 0..ticket.generations() {
         let message = cut(file, ticket, generation);
-        let codeword = encode_with(&tables, &code, &message, &mut steps);
+        let codeword = encoder.encode(&message);
         add_rows(codeword.as_slice(), generation, ticket, &mut block, sink)?;
     }
     add_frame(&Frame::End, ticket, &mut block, sink)?;

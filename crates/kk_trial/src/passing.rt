@@ -10,28 +10,21 @@ ghost use Rattle.kk_trial.specs.Trial.{file_words, made_file, words_before, tria
 use crate::Loss;
 use kk_assemble::cut;
 use kk_channel::pass_through;
-use kk_code::{Ticket, encode_with};
-use kk_field::Steps;
+use kk_code::{Encoder, Ticket};
 use kk_outside::Alloc;
 use kk_rows::Row;
-use kk_tables::FieldTables;
 use rand_core::Rng;
 use std::alloc::Global;
-use std::sync::ledger::{Blank, Ledger};
 
 /// The generations and rows that come out of the channel for a file that the generator has made: one generation after the other,
 /// by the words that come next.
-pub(crate) fn pass_file<L: Ledger, R: Rng>(
+pub(crate) fn pass_file<R: Rng>(
     alloc: Global,
     ticket: &Ticket,
     file: &[u8],
     loss: Loss,
     rng: &mut R,
-    blank: Blank,
 ) -> Result<Vec<(u32, Row)>, Alloc>
-    requires name { blank.name ≡ L.name }
-    requires parts { blank.parts ≡ L.parts }
-    requires counts { 0 < blank.parts }
     requires whole { length file.now ≡ ticket.now.length }
     requires erase { loss.erase ≤ ticket.now.code.l }
     requires inject { loss.inject ≤ ticket.now.code.field.degree }
@@ -42,12 +35,11 @@ pub(crate) fn pass_file<L: Ledger, R: Rng>(
         → OnOk result (R.stream rng.new ≡ after_words (words_before ticket.now loss (generations ticket.now)) start) }
 {
     let code = ticket.code();
-    let tables = FieldTables::new(code.field());
-    let mut steps = Steps::<L>::new(blank);
+    let encoder = Encoder::new(alloc, &code)?;
     let mut frames = Vec::new(alloc);
     for generation in 0..ticket.generations() {
         let message = cut(file, ticket, generation);
-        let codeword = encode_with(&tables, &code, &message, &mut steps);
+        let codeword = encoder.encode(&message);
         let passed = pass_through(&code, &codeword, loss.erase, loss.inject, rng);
         push_rows(&mut frames, generation, passed.as_slice())?;
     }

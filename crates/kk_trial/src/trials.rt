@@ -12,8 +12,6 @@ use kk_code::Ticket;
 use kk_outside::{Alloc, MemoryGate};
 use rand_core::Rng;
 use std::alloc::Global;
-use std::marker::Brand;
-use std::sync::ledger::Blank;
 
 /// A file, and the gates that give the frames of its generations after the channel.
 #[derive(Drop)]
@@ -47,7 +45,7 @@ pub fn make_trial<R: Rng>(
     ensures words { OnOk result (R.stream rng.new ≡ after_words (words_before ticket.now loss (generations ticket.now)) (R.stream rng.old)) }
 {
     let file = make_file(alloc, ticket.length() as usize, rng)?;
-    let frames = pass_file::<Brand, R>(alloc, ticket, &file, loss, rng, Blank::new(1))?;
+    let frames = pass_file(alloc, ticket, &file, loss, rng)?;
     let gates = deal(alloc, ticket, &frames, gates)?;
     Ok(Trial { file, gates })
 }

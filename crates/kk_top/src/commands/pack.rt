@@ -17,13 +17,11 @@ use crate::refusal::Refusal;
 use crate::report::{conclude, refuse};
 use crate::status::Status;
 use crate::words::asked_of;
-use kk_code::Ticket;
+use kk_code::{Encoder, Ticket};
 use kk_outside::{Sink, Source};
 use kk_sender::{read_file, room_for_file};
 use kk_words::Command;
 use std::alloc::Global;
-use std::marker::Brand;
-use std::sync::ledger::Blank;
 
 /// Packs a file: reads it by the ticket's length, and writes the rows of all its codewords as frames, and END.
 ///
@@ -50,11 +48,14 @@ pub fn run_pack<S: Source, K: Sink, P: Sink>(
     let Ok(mut room) = room_for_file(alloc, &ticket) else {
         return refuse(Refusal::Memory, report);
     };
+    let Ok(encoder) = Encoder::new(alloc, &ticket.code()) else {
+        return refuse(Refusal::Memory, report);
+    };
     if let Err(fault) = read_file(source, &mut room) {
         return refuse(Refusal::from(fault), report);
     }
     let bytes = &room[..ticket.length() as usize];
-    let status = pack(&ticket, bytes, file);
+    let status = pack(&ticket, &encoder, bytes, file);
     conclude(status, frames_line(&ticket).as_str(), report)
 }
 
@@ -71,13 +72,14 @@ fn ticket_named(alloc: Global, words: &[String]) -> Result<Ticket, Refusal>
 }
 
 /// Writes the capture of a file that is in memory.
-fn pack<K: Sink>(ticket: &Ticket, bytes: &[u8], file: &mut K) -> Status
-    requires { length bytes.now ≡ ticket.now.length }
+fn pack<K: Sink>(ticket: &Ticket, encoder: &Encoder, bytes: &[u8], file: &mut K) -> Status
+    requires encoder { encoder.now ≡ ticket.now.code }
+    requires whole { length bytes.now ≡ ticket.now.length }
     ensures given { WasGiven (packed ticket.now bytes.now) (change (K.told file.old) (K.told file.new)) }
     ensures status { (result ≡ Status.Done) ⊎ (result ≡ Status.OutputFault) }
     ensures five { CanCount (K.told file.old).faults → ((result ≡ Status.OutputFault) ↔ SinkFailed (change (K.told file.old) (K.told file.new))) }
 {
-    match write_capture::<Brand, K>(ticket, bytes, file, Blank::new(1)) {
+    match write_capture(ticket, encoder, bytes, file) {
         Ok(()) => Status::Done,
         Err(_) => Status::OutputFault,
     }

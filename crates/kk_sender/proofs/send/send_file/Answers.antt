@@ -24,9 +24,9 @@ pub push_rows-requires-clause-below : goal.push_rows-requires-clause-below
 push_rows-requires-clause-below g c =
     let word = word_at (g.R.Rng.stream c.args.rng.now) in
     let n = c.loop-generation.generation in
-    let rows = rows_sent c.args.ticket.now c.args.file.now c.args.extra word n c.code-code.result c.cut-message.result c.encode_with-codeword.result _ c.code-code.ensures.code c.cut-message.ensures.exact c.encode_with-codeword.ensures.rows
+    let rows = rows_sent c.args.ticket.now c.args.file.now c.args.extra word n c.args.encoder.now c.cut-message.result c.encode-codeword.result _ c.requires.encoder c.cut-message.ensures.exact c.encode-codeword.ensures.rows
     (c.as_slice.ensures ∙ c.new-rows.ensures.rows (g.R.Rng.stream c.args.rng.now) (n * c.args.extra) c.loop-generation.invariant.stream) in
-    rw rows (sent_rows-below c.args.ticket.now c.args.file.now c.args.extra word n c.code-code.ensures.ticket.code)
+    rw rows (sent_rows-below c.args.ticket.now c.args.file.now c.args.extra word n c.generations-generation-end.ensures.ticket.code)
 
 pub returns-in_err-push_rows-clause-prefix : goal.returns-in_err-push_rows-clause-prefix
 returns-in_err-push_rows-clause-prefix g c =
@@ -35,7 +35,7 @@ returns-in_err-push_rows-clause-prefix g c =
     let n = c.loop-generation.generation in
     let loop = c.loop-generation in
     let t = c.args.ticket.now in
-    let rows = rows_sent t c.args.file.now c.args.extra word n c.code-code.result c.cut-message.result c.encode_with-codeword.result _ c.code-code.ensures.code c.cut-message.ensures.exact c.encode_with-codeword.ensures.rows
+    let rows = rows_sent t c.args.file.now c.args.extra word n c.args.encoder.now c.cut-message.result c.encode-codeword.result _ c.requires.encoder c.cut-message.ensures.exact c.encode-codeword.ensures.rows
     (c.as_slice.ensures ∙ c.new-rows.ensures.rows (g.R.Rng.stream c.args.rng.now) (n * c.args.extra) loop.invariant.stream) in
     let p = err_from_is_err_and c.from_residual.result c.from_residual.ensures.1 in
     rw p.1 (prefix_at t c.args.file.now c.args.extra c.args.pack loop.datagram.pack word n _ (change (told c.args.outlet.now) (told c.push_rows.new.outlet)) (omega (arith, c.requires.some)) loop.invariant.pack
@@ -49,7 +49,7 @@ loop-generation-preserved g c =
     let n = c.loop-generation.generation in
     let loop = c.loop-generation in
     let t = c.args.ticket.now in
-    let rows = rows_sent t c.args.file.now c.args.extra word n c.code-code.result c.cut-message.result c.encode_with-codeword.result _ c.code-code.ensures.code c.cut-message.ensures.exact c.encode_with-codeword.ensures.rows
+    let rows = rows_sent t c.args.file.now c.args.extra word n c.args.encoder.now c.cut-message.result c.encode-codeword.result _ c.requires.encoder c.cut-message.ensures.exact c.encode-codeword.ensures.rows
     (c.as_slice.ensures ∙ c.new-rows.ensures.rows (g.R.Rng.stream c.args.rng.now) (n * c.args.extra) loop.invariant.stream) in
     let more : n * c.args.extra + c.args.extra ≡ (n + 1) * c.args.extra = grind arith in
     record {

@@ -1,4 +1,4 @@
-use Rattle.std.proofs.Common.{◌≡◌, [], ◌++◌, sym, subst, refl, ◌∙◌, arith, Err}
+use Rattle.std.proofs.Common.{◌≡◌, [], ◌++◌, sym, ap, subst, refl, ◌∙◌, arith, Err}
 use Rattle.std.proofs.lemmas.List.{append-nil}
 use Rattle.std.proofs.lemmas.Result.{err_from_is_err_and}
 use Rattle.kk_code.specs.Ticket.{generations}
@@ -27,7 +27,7 @@ returns-in_err-add_rows-clause-writes g c =
     let now = told c.loop-generation.sink in
     let after = told c.add_rows.new.sink in
     let holds = c.add_rows.new.block in
-    let rows = c.as_slice.ensures.rows ∙ rows_are t file n c.code-code.result c.cut-message.result c.encode_with-codeword.result c.code-code.ensures.code c.cut-message.ensures.exact c.encode_with-codeword.ensures.rows in
+    let rows = c.as_slice.ensures.rows ∙ rows_are t file n c.args.encoder.now c.cut-message.result c.encode-codeword.result c.requires.encoder c.cut-message.ensures.exact c.encode-codeword.ensures.rows in
     let cut = packed-cut t file n _ (omega (arith, c.loop-generation-test.true, c.generations-generation-end.ensures.count)) rows in
     let p = err_from_is_err_and c.from_residual.result c.from_residual.ensures.1 in
     let failed = Adds-after {T = Unit {0}} start now after [] c.loop-generation.block holds (Err p.0) (text_to t file n) _ c.loop-generation.invariant.added (Adds-err _ _ _ _ _ c.in_err-add_rows.ensures.adds) in
@@ -40,7 +40,7 @@ loop-generation-preserved g c =
     let t = c.args.ticket.now in
     let file = c.args.file.now in
     let n = c.loop-generation.generation in
-    let rows = c.as_slice.ensures.rows ∙ rows_are t file n c.code-code.result c.cut-message.result c.encode_with-codeword.result c.code-code.ensures.code c.cut-message.ensures.exact c.encode_with-codeword.ensures.rows in
+    let rows = c.as_slice.ensures.rows ∙ rows_are t file n c.args.encoder.now c.cut-message.result c.encode-codeword.result c.requires.encoder c.cut-message.ensures.exact c.encode-codeword.ensures.rows in
     record {
       added = subst (Added (told c.args.sink.now) (told c.add_rows.new.sink) [] c.add_rows.new.block) (sym (text_to-more t file n _ rows))
           (Added-after (told c.args.sink.now) (told c.loop-generation.sink) (told c.add_rows.new.sink) [] c.loop-generation.block c.add_rows.new.block (text_to t file n) _ c.loop-generation.invariant.added (Added-ok _ _ _ _ _ c.in_ok-add_rows.ensures.adds));

@@ -1,6 +1,6 @@
 use Rattle.std.proofs.Common.{ℕ, List, ◌++◌, sym, ap, ◌∙◌}
 use Rattle.kk_outside.specs.Generator.{word_at}
-use Rattle.kk_code.specs.Codeword.{Parameters}
+use Rattle.kk_code.specs.Codeword.{Parameters, codeword}
 use Rattle.kk_frame.specs.FrameView.{pairs}
 use Rattle.kk_trial.specs.Trial.{received_rows}
 use Rattle.kk_trial.proofs.Passed.{own_frames, rows_passed, words_passed}
@@ -16,7 +16,7 @@ loop-generation-preserved g c =
     record {
       frames = λ start at made.
           let rows = rows_passed t loss start _ n (so_far.words start at) c.args.file.now c.code-code.result c.cut-message.result _ _ made
-          c.code-code.ensures.code c.cut-message.ensures.exact c.encode_with-codeword.ensures.rows (c.as_slice.ensures.rows ∙ c.pass_through-passed.ensures.rows) in
+          c.code-code.ensures.code c.cut-message.ensures.exact (c.encode-codeword.ensures.rows ∙ ap (λ (p : Parameters). codeword p c.cut-message.result) c.in_ok-encoder.ensures) (c.as_slice.ensures.rows ∙ c.pass_through-passed.ensures.rows) in
           let own : ℕ → List (ℕ × ℕ) = λ h. own_frames h (received_rows t loss (word_at start) h) in
           c.in_ok-push_rows.ensures
           ∙ ap (λ (l : List ℕ). pairs c.loop-generation.frames.items ++ own_frames n l) rows

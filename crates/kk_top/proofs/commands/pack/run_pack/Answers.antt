@@ -24,6 +24,11 @@ returns-in_default-clause-packs g c =
     packs_refused (texts c.args.words.now) Memory c.refuse-in_default.result (g.S.Source.told c.args.source.now) (g.K.Sink.told c.args.file.now) (change (g.P.Sink.told c.args.report.now) (g.P.Sink.told c.refuse-in_default.new.report))
     tt c.refuse-in_default.ensures.status c.refuse-in_default.ensures.given
 
+pub returns-in_default-new-clause-packs : goal.returns-in_default-new-clause-packs
+returns-in_default-new-clause-packs g c =
+    packs_refused (texts c.args.words.now) Memory c.refuse-in_default-new.result (g.S.Source.told c.args.source.now) (g.K.Sink.told c.args.file.now) (change (g.P.Sink.told c.args.report.now) (g.P.Sink.told c.refuse-in_default-new.new.report))
+    tt c.refuse-in_default-new.ensures.status c.refuse-in_default-new.ensures.given
+
 pub returns-in-Err-read_file-clause-packs : goal.returns-in-Err-read_file-clause-packs
 returns-in-Err-read_file-clause-packs g c =
     let source = change (g.S.Source.told c.args.source.now) (g.S.Source.told c.read_file.new.source) in
