@@ -1,8 +1,8 @@
 -- What one point does to the two polynomials.
-use Rattle.std.proofs.Common.{◌≡◌, ◌≢◌, ℕ, suc, ◌+◌, ◌^◌, ◌<◌, ◌≤◌, ◌↔◌, IsTrue, Bool, true, false, length, bit_xor, sym, ap, ap₂, ◌∙◌, arith, inl, inr}
+use Rattle.std.proofs.Common.{◌≡◌, ◌≢◌, ℕ, suc, ◌+◌, ◌^◌, ◌<◌, ◌≤◌, ◌↔◌, IsTrue, Bool, true, false, List, length, bit_xor, sym, ap, ap₂, ◌∙◌, arith, inl, inr}
 use Rattle.std.specs.Prelude.{slice_index}
 use Rattle.std.proofs.lemmas.Bool.{cases_lt}
-use Rattle.std.specs.Int.Bits.{xor_self, xor_zero_l, xor_zero_r, xor_lt}
+use Rattle.std.specs.Int.Bits.{xor_self, xor_comm, xor_zero_l, xor_zero_r, xor_lt}
 use Rattle.kk_field.specs.Polynomial.{IsIrreducible}
 use Rattle.kk_field.specs.Field.{Modulus, polynomial, field_product}
 use Rattle.kk_field.proofs.Sums.{xor_xor_swap}
@@ -12,7 +12,7 @@ use Rattle.kk_linpoly.specs.LinPoly.{value}
 use Rattle.kk_interp.specs.declared.bi_poly.BiPoly.{BiPoly}
 use Rattle.kk_interp.specs.BiPoly.{value_at}
 use Rattle.kk_interp.specs.Pair.{IsPair, AreApart, cross}
-use Rattle.kk_interp.specs.Steps.{grown, raised_value, combined_value, IsRaisedPart, IsRaised, IsCombined, AreZero, Cancels}
+use Rattle.kk_interp.specs.Steps.{grown, raised_value, combined_value, IsRaisedPart, IsRaised, IsCombinedPart, IsCombined, AreZero, Cancels}
 use Rattle.kk_interp.proofs.PartSums.{grown-zero, grown-positive}
 
 -- a test that failed
@@ -131,6 +131,26 @@ IsPair-more f k points q g pair =
     }
 
 -- ---- values
+
+-- the order of a sum makes no difference
+combined_value-sym : (f : Modulus) (a v b w : ℕ) → combined_value f a v b w ≡ combined_value f b w a v
+combined_value-sym f a v b w = xor_comm (field_product f a v) (field_product f b w)
+
+IsCombinedPart-sym : (f : Modulus) (a : ℕ) (cs : List ℕ) (b : ℕ) (ds new : List ℕ) → IsCombinedPart f a cs b ds new → IsCombinedPart f b ds a cs new
+IsCombinedPart-sym f a cs b ds new h = record {
+  part = h.part;
+  left = h.right;
+  right = h.left;
+  at_most = λ n d_short c_short. h.at_most n c_short d_short;
+  first = h.first ∙ combined_value-sym f a (slice_index cs 0) b (slice_index ds 0);
+  values = λ x. h.values x ∙ combined_value-sym f a (value f cs x) b (value f ds x);
+}
+
+pub IsCombined-sym : (f : Modulus) (a : ℕ) (q : BiPoly) (b : ℕ) (g new : BiPoly) → IsCombined f a q b g new → IsCombined f b g a q new
+IsCombined-sym f a q b g new h = record {
+  x = IsCombinedPart-sym f a q.qx b g.qx new.qx h.x;
+  y = IsCombinedPart-sym f a q.qy b g.qy new.qy h.y;
+}
 
 module _ (f : Modulus) (h : f.low < 2 ^ f.degree) where
   -- the two parts together

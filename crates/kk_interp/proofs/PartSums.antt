@@ -34,15 +34,6 @@ length-trimmed-at_most cs n past =
       | inr none ↦ omega (arith, ap length (trimmed-zeros cs none))
     ]
 
-Leads-trimmed : (cs : List ℕ) (e : ℕ) → Leads cs e → Leads (trimmed cs) e
-Leads-trimmed cs e h = record {
-  leading = λ z. h.leading (sym (slice_index-trimmed cs e) ∙ z);
-  past = λ i more. slice_index-trimmed cs i ∙ h.past i more;
-}
-
-trimmed-past : (cs : List ℕ) (n : ℕ) → ((i : ℕ) → n ≤ i → slice_index cs i ≡ 0) → (i : ℕ) → n ≤ i → slice_index (trimmed cs) i ≡ 0
-trimmed-past cs n past i from = slice_index-trimmed cs i ∙ past i from
-
 grown-suc : (n : ℕ) → grown (suc n) ≡ suc (suc n)
 unfolding grown
 grown-suc n = refl
@@ -59,27 +50,17 @@ grown-positive (suc n) h = grown-suc n
 pub IsPart-trimmed : (m : ℕ) (cs : List ℕ) → IsOver m cs → IsPart m (trimmed cs)
 IsPart-trimmed m cs over = record { over = All-trimmed (λ c. c < 2 ^ m) cs over; no_zero_at_end = trimmed-trimmed cs }
 
-pub combined_part : Modulus → ℕ → List ℕ → ℕ → List ℕ → List ℕ
-combined_part f a cs b ds = sum_of (trimmed (scaled f a cs)) (trimmed (scaled f b ds))
-
-pub combined_part-is : (f : Modulus) (a : ℕ) (cs : List ℕ) (b : ℕ) (ds : List ℕ)
-    → combined_part f a cs b ds ≡ sum_of (trimmed (scaled f a cs)) (trimmed (scaled f b ds))
-unfolding combined_part
-combined_part-is f a cs b ds = refl
+abbrev combined_part : Modulus → ℕ → List ℕ → ℕ → List ℕ → List ℕ
+combined_part f a cs b ds = sum_of (scaled f a cs) (scaled f b ds)
 
 module _ (f : Modulus) (h : f.low < 2 ^ f.degree) (irreducible : IsIrreducible (polynomial f)) where
-  trimmed_over : (cs : List ℕ) → IsOver f.degree cs → IsOver f.degree (trimmed cs)
-  trimmed_over cs over = All-trimmed (λ c. c < 2 ^ f.degree) cs over
+  scaled-past : (a : ℕ) (cs : List ℕ) (n : ℕ) → length cs ≤ n → (i : ℕ) → n ≤ i → slice_index (scaled f a cs) i ≡ 0
+  scaled-past a cs n short i from =
+      slice_index-scaled f h a cs i ∙ ap (field_product f a) (get_or_past cs i 0 (omega arith)) ∙ field_product-zero f h a
 
-  scaled-past : (a : ℕ) (cs : List ℕ) (n : ℕ) → length cs ≤ n → (i : ℕ) → n ≤ i → slice_index (trimmed (scaled f a cs)) i ≡ 0
-  scaled-past a cs n short =
-      trimmed-past (scaled f a cs) n
-      (λ i from. slice_index-scaled f h a cs i ∙ ap (field_product f a) (get_or_past cs i 0 (omega arith)) ∙ field_product-zero f h a)
-
-  scaled-leads : (a : ℕ) (cs : List ℕ) (e : ℕ) → a < 2 ^ f.degree → a ≢ 0 → IsPart f.degree cs → length cs ≡ suc e
-      → Leads (trimmed (scaled f a cs)) e
+  scaled-leads : (a : ℕ) (cs : List ℕ) (e : ℕ) → a < 2 ^ f.degree → a ≢ 0 → IsPart f.degree cs → length cs ≡ suc e → Leads (scaled f a cs) e
   scaled-leads a cs e below some part long =
-      Leads-trimmed (scaled f a cs) e (Leads-scaled f h irreducible a cs e below some part.over (leads_of_length cs e part.no_zero_at_end long))
+      Leads-scaled f h irreducible a cs e below some part.over (leads_of_length cs e part.no_zero_at_end long)
 
   -- ---- the square plus a multiple
 
@@ -98,7 +79,7 @@ module _ (f : Modulus) (h : f.low < 2 ^ f.degree) (irreducible : IsIrreducible (
   raised_leads d cs e part long =
       Leads-sum_of_left (squared_up f cs) (scaled f d cs) (suc e)
       (Leads-squared_up f h irreducible cs e part.over (leads_of_length cs e part.no_zero_at_end long))
-      (λ i from. sym (slice_index-trimmed (scaled f d cs) i) ∙ scaled-past d cs (suc e) (omega arith) i from)
+      (scaled-past d cs (suc e) (omega arith))
 
   length-raised : (d : ℕ) (cs : List ℕ) → IsPart f.degree cs → length (trimmed (raised f d cs)) ≡ grown (length cs)
   length-raised d [] part = raised_zero d ∙ sym grown-zero
@@ -123,53 +104,46 @@ module _ (f : Modulus) (h : f.low < 2 ^ f.degree) (irreducible : IsIrreducible (
 
   length-combined_left : (a b : ℕ) (cs ds : List ℕ) → a < 2 ^ f.degree → a ≢ 0 → IsPart f.degree cs → length ds < length cs
       → length (trimmed (combined_part f a cs b ds)) ≡ length cs
-  unfolding combined_part
   length-combined_left a b [] ds below some part less = absurd (omega arith)
   length-combined_left a b (c ∷ cs) ds below some part less =
       length_of_leads (combined_part f a (c ∷ cs) b ds) (length cs)
-      (Leads-sum_of_left (trimmed (scaled f a (c ∷ cs))) (trimmed (scaled f b ds)) (length cs)
+      (Leads-sum_of_left (scaled f a (c ∷ cs)) (scaled f b ds) (length cs)
       (scaled-leads a (c ∷ cs) (length cs) below some part refl) (scaled-past b ds (length cs) (omega arith)))
 
   length-combined_right : (a b : ℕ) (cs ds : List ℕ) → b < 2 ^ f.degree → b ≢ 0 → IsPart f.degree ds → length cs < length ds
       → length (trimmed (combined_part f a cs b ds)) ≡ length ds
-  unfolding combined_part
   length-combined_right a b cs [] below some part less = absurd (omega arith)
   length-combined_right a b cs (d ∷ ds) below some part less =
       length_of_leads (combined_part f a cs b (d ∷ ds)) (length ds)
-      (Leads-sum_of_right (trimmed (scaled f a cs)) (trimmed (scaled f b (d ∷ ds))) (length ds)
+      (Leads-sum_of_right (scaled f a cs) (scaled f b (d ∷ ds)) (length ds)
       (scaled-past a cs (length ds) (omega arith)) (scaled-leads b (d ∷ ds) (length ds) below some part refl))
 
   length-combined_at_most : (a b : ℕ) (cs ds : List ℕ) (n : ℕ) → length cs ≤ n → length ds ≤ n
       → length (trimmed (combined_part f a cs b ds)) ≤ n
-  unfolding combined_part
   length-combined_at_most a b cs ds n c_short d_short =
       length-trimmed-at_most (combined_part f a cs b ds) n
-      (sum_of-past (trimmed (scaled f a cs)) (trimmed (scaled f b ds)) n (scaled-past a cs n c_short) (scaled-past b ds n d_short))
+      (sum_of-past (scaled f a cs) (scaled f b ds) n (scaled-past a cs n c_short) (scaled-past b ds n d_short))
 
   value-combined : (a b : ℕ) (cs ds : List ℕ) (x : ℕ)
       → value f (trimmed (combined_part f a cs b ds)) x ≡ combined_value f a (value f cs x) b (value f ds x)
-  unfolding combined_part
   value-combined a b cs ds x =
       value-trimmed f h (combined_part f a cs b ds) x
-      ∙ value-sum_of f h (trimmed (scaled f a cs)) (trimmed (scaled f b ds)) x
-      ∙ ap (λ v. bit_xor v (value f (trimmed (scaled f b ds)) x)) (value-trimmed f h (scaled f a cs) x ∙ value-scaled f h a cs x)
-      ∙ ap (bit_xor (field_product f a (value f cs x))) (value-trimmed f h (scaled f b ds) x ∙ value-scaled f h b ds x)
+      ∙ value-sum_of f h (scaled f a cs) (scaled f b ds) x
+      ∙ ap (λ v. bit_xor v (value f (scaled f b ds) x)) (value-scaled f h a cs x)
+      ∙ ap (bit_xor (field_product f a (value f cs x))) (value-scaled f h b ds x)
 
   first-combined : (a b : ℕ) (cs ds : List ℕ)
       → slice_index (trimmed (combined_part f a cs b ds)) 0 ≡ combined_value f a (slice_index cs 0) b (slice_index ds 0)
-  unfolding combined_part
   first-combined a b cs ds =
-      slice_index-trimmed (combined_part f a cs b ds) 0 ∙ slice_index-sum_of (trimmed (scaled f a cs)) (trimmed (scaled f b ds)) 0
-      ∙ ap (λ v. bit_xor v (slice_index (trimmed (scaled f b ds)) 0)) (slice_index-trimmed (scaled f a cs) 0 ∙ slice_index-scaled f h a cs 0)
-      ∙ ap (bit_xor (field_product f a (slice_index cs 0))) (slice_index-trimmed (scaled f b ds) 0 ∙ slice_index-scaled f h b ds 0)
+      slice_index-trimmed (combined_part f a cs b ds) 0 ∙ slice_index-sum_of (scaled f a cs) (scaled f b ds) 0
+      ∙ ap (λ v. bit_xor v (slice_index (scaled f b ds) 0)) (slice_index-scaled f h a cs 0)
+      ∙ ap (bit_xor (field_product f a (slice_index cs 0))) (slice_index-scaled f h b ds 0)
 
   pub IsCombinedPart-combined : (a b : ℕ) (cs ds : List ℕ) → a < 2 ^ f.degree → a ≢ 0 → b < 2 ^ f.degree → b ≢ 0
-      → IsPart f.degree cs → IsPart f.degree ds → IsCombinedPart f a cs b ds (trimmed (combined_part f a cs b ds))
-  unfolding combined_part
+      → IsPart f.degree cs → IsPart f.degree ds → IsCombinedPart f a cs b ds (trimmed (sum_of (scaled f a cs) (scaled f b ds)))
   IsCombinedPart-combined a b cs ds a_below a_some b_below b_some c_part d_part = record {
     part = IsPart-trimmed f.degree (combined_part f a cs b ds)
-        (IsOver-sum_of f.degree (trimmed (scaled f a cs)) (trimmed (scaled f b ds))
-        (trimmed_over (scaled f a cs) (IsOver-scaled f h a cs)) (trimmed_over (scaled f b ds) (IsOver-scaled f h b ds)));
+        (IsOver-sum_of f.degree (scaled f a cs) (scaled f b ds) (IsOver-scaled f h a cs) (IsOver-scaled f h b ds));
     left = length-combined_left a b cs ds a_below a_some c_part;
     right = length-combined_right a b cs ds b_below b_some d_part;
     at_most = length-combined_at_most a b cs ds;

@@ -1,8 +1,6 @@
 //! The polynomial in two variables.
-ghost use Rattle.std.specs.Prelude.{◌≡◌, ◌≢◌, ◌+◌, ◌*◌, ◌^◌, ◌<◌, ◌≤◌, length};
+ghost use Rattle.std.specs.Prelude.{◌≡◌, ◌≢◌, ◌+◌, ◌*◌, ◌^◌, ◌<◌, ◌≤◌};
 ghost use Rattle.kk_field.specs.Laws.{IsFieldModulus};
-ghost use Rattle.kk_interp.specs.BiPoly.{IsPart};
-ghost use Rattle.kk_interp.specs.Steps.{IsCombinedPart};
 
 use kk_field::Steps;
 use kk_linpoly::LinPoly;
@@ -50,71 +48,39 @@ impl BiPoly {
         self.qx.eval(field, x, steps) ^ self.qy.eval(field, y, steps)
     }
 
-    /// The square plus `d` times the polynomial, whose value is 0 where that of the polynomial is `d`.
-    pub(crate) fn raised<L: Ledger>(
-        &self,
-        field: &FieldTables,
-        d: u64,
-        steps: &mut Steps<L>,
-    ) -> BiPoly
+    /// Makes of the polynomial its square plus `d` times it, whose value is 0 where that of the polynomial was `d`.
+    pub(crate) fn raise<L: Ledger>(&mut self, field: &FieldTables, d: u64, steps: &mut Steps<L>)
         requires field { IsFieldModulus field.now }
-        requires of_field { IsOfField field.now self.now.qx self.now.qy }
-        requires fits { IsShort 127 self.now }
+        requires of_field { IsOfField field.now self.old.qx self.old.qy }
+        requires fits { IsShort 127 self.old }
         requires d_below { d < 2 ^ field.now.degree }
-        ensures raised { IsRaised field.now d self.now result }
-        ensures cost { steps.new ≤ steps.old + 2 * size self.now }
+        ensures raised { IsRaised field.now d self.old self.new }
+        ensures cost { steps.new ≤ steps.old + 2 * size self.old }
     {
-        BiPoly {
-            qx: self.qx.raised(field, d, steps),
-            qy: self.qy.raised(field, d, steps),
-        }
+        self.qx.raise(field, d, steps);
+        self.qy.raise(field, d, steps);
     }
 
-    /// `a` times the polynomial plus `b` times `other`.
-    pub(crate) fn combined<L: Ledger>(
-        &self,
+    /// Makes of the polynomial `a` times it plus `b` times `other`.
+    pub(crate) fn combine<L: Ledger>(
+        &mut self,
         field: &FieldTables,
         a: u64,
         other: &BiPoly,
         b: u64,
         steps: &mut Steps<L>,
-    ) -> BiPoly
+    )
         requires field { IsFieldModulus field.now }
-        requires of_field { IsOfField field.now self.now.qx self.now.qy }
+        requires of_field { IsOfField field.now self.old.qx self.old.qy }
         requires other_of_field { IsOfField field.now other.now.qx other.now.qy }
         requires a_below { a < 2 ^ field.now.degree }
         requires b_below { b < 2 ^ field.now.degree }
         requires a_some { a ≢ 0 }
         requires b_some { b ≢ 0 }
-        ensures combined { IsCombined field.now a self.now b other.now result }
-        ensures cost { steps.new ≤ steps.old + (size self.now + size other.now) }
+        ensures combined { IsCombined field.now a self.old b other.now self.new }
+        ensures cost { steps.new ≤ steps.old + (size self.old + size other.now) }
     {
-        BiPoly {
-            qx: combined_part(&self.qx, field, a, &other.qx, b, steps),
-            qy: combined_part(&self.qy, field, a, &other.qy, b, steps),
-        }
+        self.qx.combine(field, a, &other.qx, b, steps);
+        self.qy.combine(field, a, &other.qy, b, steps);
     }
-}
-
-/// `a` times `part` plus `b` times `other`.
-fn combined_part<L: Ledger>(
-    part: &LinPoly,
-    field: &FieldTables,
-    a: u64,
-    other: &LinPoly,
-    b: u64,
-    steps: &mut Steps<L>,
-) -> LinPoly
-    requires field { IsFieldModulus field.now }
-    requires of_field { IsPart field.now.degree part.now }
-    requires other_of_field { IsPart field.now.degree other.now }
-    requires a_below { a < 2 ^ field.now.degree }
-    requires b_below { b < 2 ^ field.now.degree }
-    requires a_some { a ≢ 0 }
-    requires b_some { b ≢ 0 }
-    ensures combined { IsCombinedPart field.now a part.now b other.now result }
-    ensures cost { steps.new ≤ steps.old + (length part.now + length other.now) }
-{
-    let multiple = part.scale(field, a, steps);
-    multiple.add(&other.scale(field, b, steps))
 }

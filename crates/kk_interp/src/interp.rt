@@ -116,16 +116,15 @@ impl Interp {
         self.count += 1;
         match (v, w) {
             (0, 0) => {}
-            (_, 0) => self.x_leading = self.x_leading.raised(field, v, steps),
-            (0, _) => self.y_leading = self.y_leading.raised(field, w, steps),
+            (_, 0) => self.x_leading.raise(field, v, steps),
+            (0, _) => self.y_leading.raise(field, w, steps),
             (_, _) => {
-                let sum = self.x_leading.combined(field, w, &self.y_leading, v, steps);
                 if x_is_least(&self.x_leading, &self.y_leading, self.k) {
-                    self.x_leading = self.x_leading.raised(field, v, steps);
-                    self.y_leading = sum;
+                    self.y_leading.combine(field, v, &self.x_leading, w, steps);
+                    self.x_leading.raise(field, v, steps);
                 } else {
-                    self.y_leading = self.y_leading.raised(field, w, steps);
-                    self.x_leading = sum;
+                    self.x_leading.combine(field, w, &self.y_leading, v, steps);
+                    self.y_leading.raise(field, w, steps);
                 }
             }
         }

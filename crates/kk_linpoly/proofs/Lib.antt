@@ -12,3 +12,4 @@ pub mod Vanishings
 pub mod SumLaws
 pub mod Monomials
 pub mod LinMaps
+pub mod Combs

@@ -2,11 +2,13 @@
 use Rattle.std.proofs.Common.{◌≡◌, ◌≢◌, ℕ, suc, ◌+◌, ◌<◌, ◌≤◌, List, [], ◌∷◌, ◌++◌, length, take, set, bit_xor, refl, sym, ap, ◌∙◌, arith}
 use Rattle.std.specs.Prelude.{slice_index}
 use Rattle.std.proofs.Math.Nat.{add-zero, add-suc, suc-add, zero-add}
-use Rattle.std.proofs.lemmas.List.{take_more, map_more, length-take-le, length-map}
+use Rattle.std.proofs.Math.Numerals.{add-one}
+use Rattle.std.proofs.lemmas.List.{take_more, map_more, length-take-le, length-map, get_or-map, get_or_past}
 use Rattle.kk_field.specs.Field.{Modulus, field_product, frobenius}
 use Rattle.std.specs.Int.Bits.{xor_zero_l, xor_zero_r, xor_assoc}
-use Rattle.kk_linpoly.specs.LinPoly.{trimmed, sum_of, scaled, value_from, value}
+use Rattle.kk_linpoly.specs.LinPoly.{trimmed, sum_of, scaled, squared_up, raised, value_from, value}
 use Rattle.kk_linpoly.proofs.Trimmed.{trimmed-push, trimmed-push_zero}
+use Rattle.kk_linpoly.proofs.Coefficients.{slice_index-sum_of, length-sum_of_max}
 
 -- ---- the zeros at the end, from the last one down
 
@@ -56,6 +58,31 @@ multiple_more f a start sum cs i c within fits e c_is =
     ∙ sym (sum_of-push start front (field_product f a c) (omega (arith, count)))
     ∙ ap (λ x. sum_of start (front ++ field_product f a x ∷ [])) c_is
     ∙ ap (sum_of start) (sym (map_more (field_product f a) cs i 0 within))
+
+-- ---- the square plus a multiple, place by place
+
+pub length-raised : (f : Modulus) (d : ℕ) (cs : List ℕ) → length (raised f d cs) ≡ length cs + 1
+length-raised f d cs =
+    let square : ℕ → ℕ = λ x. field_product f x x in
+    omega (arith, length-map cs square, length-map cs (field_product f d), length-sum_of_max (squared_up f cs) (scaled f d cs))
+
+pub raised_within : (f : Modulus) (d : ℕ) (cs : List ℕ) (k : ℕ) → k < length cs
+    → slice_index (raised f d cs) k ≡ bit_xor (slice_index (squared_up f cs) k) (field_product f d (slice_index cs k))
+raised_within f d cs k within =
+    slice_index-sum_of (squared_up f cs) (scaled f d cs) k
+    ∙ ap (bit_xor (slice_index (squared_up f cs) k)) (get_or-map (field_product f d) cs k 0 0 within)
+
+pub raised_last : (f : Modulus) (d : ℕ) (cs : List ℕ) → slice_index (raised f d cs) (length cs) ≡ slice_index (squared_up f cs) (length cs)
+raised_last f d cs =
+    slice_index-sum_of (squared_up f cs) (scaled f d cs) (length cs)
+    ∙ ap (bit_xor (slice_index (squared_up f cs) (length cs)))
+    (get_or_past (scaled f d cs) (length cs) 0 (omega (arith, length-map cs (field_product f d))))
+    ∙ xor_zero_r (slice_index (squared_up f cs) (length cs))
+
+-- the square of the coefficient before stands at each place but the lowest
+pub squared_next : (f : Modulus) (cs : List ℕ) (k : ℕ) → k < length cs
+    → slice_index (squared_up f cs) (k + 1) ≡ field_product f (slice_index cs k) (slice_index cs k)
+squared_next f cs k within = rw (add-one k) (get_or-map (λ c. field_product f c c) cs k 0 0 within)
 
 -- ---- a value, coefficient by coefficient
 

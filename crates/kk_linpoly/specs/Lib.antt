@@ -3,3 +3,4 @@ pub mod LinPolyExamples
 pub mod Storage
 pub mod LinMap
 pub mod Laws
+pub mod Matrix

@@ -6,10 +6,13 @@
 
 pub use lin_map::LinMap;
 pub use lin_poly::{LinPoly, MAX_COEFFICIENTS};
+pub use matrix::{MAX_COLUMNS, MatrixRow, transform};
 
+mod comb;
 pub mod laws;
 mod lin_map;
 mod lin_poly;
+mod matrix;
 mod places;
 #[cfg(test)]
 mod tests;

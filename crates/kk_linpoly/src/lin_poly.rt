@@ -1,10 +1,10 @@
 //! A linearised polynomial: values, sums, multiples, compositions, vanishing polynomials.
-ghost use Rattle.std.specs.Prelude.{◌≡◌, ℕ, ◌+◌, ◌-◌, ◌*◌, ◌^◌, ◌<◌, ◌≤◌, ◌↔◌, length, max, IsTrue, All};
+ghost use Rattle.std.specs.Prelude.{◌≡◌, ℕ, ◌+◌, ◌-◌, ◌*◌, ◌^◌, ◌<◌, ◌≤◌, ◌↔◌, length, slice_index, max, IsTrue, All};
 ghost use Rattle.kk_rows.specs.Span.{in_span, IsIndependent};
 ghost use Rattle.kk_linpoly.specs.declared.lin_poly.TheConstants.{MAX_COEFFICIENTS};
 ghost use Rattle.kk_linpoly.specs.LinPoly.{IsOver, IsMonic, value, trimmed, degree, sum_of, scaled, composition, squared_up, raised};
 
-use crate::places::{add_multiple, add_to, square_each, trimmed_len};
+use crate::places::{add_multiple, add_to, raise_each, scale_each, square_each, trimmed_len};
 use kk_field::Steps;
 use kk_tables::FieldTables;
 use std::marker::Model;
@@ -62,16 +62,19 @@ impl LinPoly {
         ensures len { length result ≤ length c.now }
         ensures of_field { (m : ℕ) → IsOver m c.now → IsOver m result }
     {
+        let len = trimmed_len(c);
         let mut coefficients = [0; MAX_COEFFICIENTS];
-        coefficients[..c.len()].copy_from_slice(c);
-        LinPoly::from_array(coefficients)
+        coefficients[..len].copy_from_slice(&c[..len]);
+        LinPoly { coefficients, len }
     }
 
-    /// The polynomial with these coefficients.
-    fn from_array(coefficients: [u64; MAX_COEFFICIENTS]) -> LinPoly
+    /// The polynomial with these coefficients, which are 0 from place `end` on.
+    fn from_places(coefficients: [u64; MAX_COEFFICIENTS], end: usize) -> LinPoly
+        requires fits { end ≤ MAX_COEFFICIENTS }
+        requires ends { (i : ℕ) → end ≤ i → slice_index coefficients i ≡ 0 }
         ensures { result ≡ trimmed coefficients }
     {
-        let len = trimmed_len(&coefficients);
+        let len = trimmed_len(&coefficients[..end]);
         LinPoly { coefficients, len }
     }
 
@@ -121,7 +124,7 @@ impl LinPoly {
     {
         let mut sum = self.coefficients;
         add_to(&mut sum, g.coeffs());
-        LinPoly::from_array(sum)
+        LinPoly::from_places(sum, self.len.max(g.len))
     }
 
     /// `c` times the polynomial.
@@ -135,7 +138,7 @@ impl LinPoly {
     {
         let mut product = [0; MAX_COEFFICIENTS];
         add_multiple(&mut product, field.ring(), c, self.coeffs(), steps);
-        LinPoly::from_array(product)
+        LinPoly::from_places(product, self.len)
     }
 
     /// The square, which is the composition of X^2 and the polynomial. Its degree is one more, so at most 127 coefficients
@@ -152,27 +155,47 @@ impl LinPoly {
         let places = &mut square[1..self.len + 1];
         places.copy_from_slice(self.coeffs());
         square_each(places, field.ring(), steps);
-        LinPoly::from_array(square)
+        LinPoly::from_places(square, self.len + 1)
     }
 
-    /// The square plus `d` times the polynomial: v^2 + d·v where the value of the polynomial is v, so 0 exactly where v is 0
-    /// or `d`. Its degree is one more, so at most 127 coefficients have room for it.
-    pub fn raised<L: Ledger>(&self, field: &FieldTables, d: u64, steps: &mut Steps<L>) -> LinPoly
-        requires of_field { IsOver field.now.degree self.now }
-        requires fits { length self.now ≤ 127 }
+    /// Makes of the polynomial its square plus `d` times it: v^2 + d·v where its value was v, so 0 exactly where that was 0
+    /// or `d`. Its degree becomes one more, so at most 127 coefficients have room for it.
+    pub fn raise<L: Ledger>(&mut self, field: &FieldTables, d: u64, steps: &mut Steps<L>)
+        requires of_field { IsOver field.now.degree self.old }
+        requires fits { length self.old ≤ 127 }
         requires d_below { d < 2 ^ field.now.degree }
-        ensures value { result ≡ trimmed (raised field.now d self.now) }
-        ensures len { length result ≤ length self.now + 1 }
-        ensures of_field { IsOver field.now.degree result }
-        ensures cost { steps.new ≤ steps.old + 2 * length self.now }
+        ensures value { self.new ≡ trimmed (raised field.now d self.old) }
+        ensures len { length self.new ≤ length self.old + 1 }
+        ensures of_field { IsOver field.now.degree self.new }
+        ensures cost { steps.new ≤ steps.old + 2 * length self.old }
+    {
+        let top = raise_each(&mut self.coefficients[..self.len], field.ring(), d, steps);
+        self.coefficients[self.len] = top;
+        self.len = trimmed_len(&self.coefficients[..self.len + 1]);
+    }
+
+    /// Makes of the polynomial `a` times it plus `b` times `other`.
+    pub fn combine<L: Ledger>(
+        &mut self,
+        field: &FieldTables,
+        a: u64,
+        other: &LinPoly,
+        b: u64,
+        steps: &mut Steps<L>,
+    )
+        requires of_field { IsOver field.now.degree self.old }
+        requires other_of_field { IsOver field.now.degree other.now }
+        requires a_below { a < 2 ^ field.now.degree }
+        requires b_below { b < 2 ^ field.now.degree }
+        ensures value { self.new ≡ trimmed (sum_of (scaled field.now a self.old) (scaled field.now b other.now)) }
+        ensures len { length self.new ≤ max (length self.old) (length other.now) }
+        ensures of_field { IsOver field.now.degree self.new }
+        ensures cost { steps.new ≤ steps.old + (length self.old + length other.now) }
     {
         let ring = field.ring();
-        let mut sum = [0; MAX_COEFFICIENTS];
-        let places = &mut sum[1..self.len + 1];
-        places.copy_from_slice(self.coeffs());
-        square_each(places, ring, steps);
-        add_multiple(&mut sum, ring, d, self.coeffs(), steps);
-        LinPoly::from_array(sum)
+        scale_each(&mut self.coefficients[..self.len], ring, a, steps);
+        add_multiple(&mut self.coefficients, ring, b, other.coeffs(), steps);
+        self.len = trimmed_len(&self.coefficients[..self.len.max(other.len)]);
     }
 
     /// The composition, whose value at x is the value of the polynomial at the value of `g` at x.
@@ -200,7 +223,7 @@ impl LinPoly {
             add_multiple(&mut sum[i..], ring, *c, &powers[..g.len], steps);
             square_each(&mut powers[..g.len], ring, steps);
         }
-        LinPoly::from_array(sum)
+        LinPoly::from_places(sum, (self.len + g.len).saturating_sub(1))
     }
 
     /// The monic polynomial whose degree is the number of points and which is 0 at each of them: at most 127 points below
@@ -226,7 +249,7 @@ impl LinPoly {
         let mut v = LinPoly::from_slice(&[field.one()]);
         for p in points {
             let at = v.eval(field, *p, steps);
-            v = v.raised(field, at, steps);
+            v.raise(field, at, steps);
         }
         v
     }

@@ -1,7 +1,7 @@
 //! Coefficients in a slice.
-ghost use Rattle.std.specs.Prelude.{◌≡◌, ◌+◌, ◌≤◌, ◌<◌, ◌^◌, length, map, take};
+ghost use Rattle.std.specs.Prelude.{◌≡◌, ℕ, ◌+◌, ◌*◌, ◌≤◌, ◌<◌, ◌^◌, length, map, take, slice_index};
 ghost use Rattle.kk_field.specs.Field.{field_product};
-ghost use Rattle.kk_linpoly.specs.LinPoly.{IsOver, trimmed, sum_of, scaled};
+ghost use Rattle.kk_linpoly.specs.LinPoly.{IsOver, trimmed, sum_of, scaled, raised};
 
 use kk_field::Steps;
 use kk_tables::FieldTables;
@@ -61,4 +61,46 @@ pub(crate) fn square_each<L: Ledger>(
     for c in coefficients.iter_mut() {
         *c = ring.square(*c, steps);
     }
+}
+
+/// Multiplies each coefficient by `a`.
+pub(crate) fn scale_each<L: Ledger>(
+    coefficients: &mut [u64],
+    ring: &FieldTables,
+    a: u64,
+    steps: &mut Steps<L>,
+)
+    requires a_below { a < 2 ^ ring.now.degree }
+    requires of_field { IsOver ring.now.degree coefficients.old }
+    ensures value { coefficients.new ≡ scaled ring.now a coefficients.old }
+    ensures cost { steps.new ≤ steps.old + length coefficients.old }
+{
+    for c in coefficients.iter_mut() {
+        *c = ring.mul(a, *c, steps);
+    }
+}
+
+/// Puts in place of the coefficients those of the square plus `d` times the polynomial. It answers the last of them, one
+/// place past the end.
+pub(crate) fn raise_each<L: Ledger>(
+    coefficients: &mut [u64],
+    ring: &FieldTables,
+    d: u64,
+    steps: &mut Steps<L>,
+) -> u64
+    requires of_field { IsOver ring.now.degree coefficients.old }
+    requires d_below { d < 2 ^ ring.now.degree }
+    ensures within { (k : ℕ) → k < length coefficients.old
+        → slice_index coefficients.new k ≡ slice_index (raised ring.now d coefficients.old) k }
+    ensures last { result ≡ slice_index (raised ring.now d coefficients.old) (length coefficients.old) }
+    ensures cost { steps.new ≤ steps.old + 2 * length coefficients.old }
+{
+    // the square of the coefficient before
+    let mut square = 0;
+    for c in coefficients.iter_mut() {
+        let next = ring.square(*c, steps);
+        *c = square ^ ring.mul(d, *c, steps);
+        square = next;
+    }
+    square
 }

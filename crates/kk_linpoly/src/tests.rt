@@ -1,7 +1,7 @@
 //! Worked values over GF(8) with the modulus X^3 + X + 1, where the powers of 2 are 1, 2, 4, 3, 6, 7, 5.
 ghost use Rattle.std.specs.Prelude.{◌≡◌, ◌<◌, IfSome};
 
-use crate::{LinMap, LinPoly};
+use crate::{LinMap, LinPoly, MatrixRow, transform};
 use kk_field::{Field, Ring, Steps};
 use kk_tables::FieldTables;
 use std::marker::Brand;
@@ -75,7 +75,8 @@ fn multiple_and_squares<L: Ledger>(blank: Blank) -> Option<(LinPoly, LinPoly, Li
     let mut steps: Steps<L> = Steps::new(blank);
     let multiple = LinPoly::from_slice(&[1, 2, 4]).scale(&field, 2, &mut steps);
     let square = LinPoly::from_slice(&[3]).square_up(&field, &mut steps);
-    let raised = LinPoly::from_slice(&[1, 1]).raised(&field, 6, &mut steps);
+    let mut raised = LinPoly::from_slice(&[1, 1]);
+    raised.raise(&field, 6, &mut steps);
     Some((multiple, square, raised))
 }
 
@@ -158,4 +159,58 @@ fn the_map_takes_all_bytes(rt: HostRuntime) -> Result<(), Fail> {
         assert_eq!(rt; of_the_identity::<Brand>(x, Blank::new(1)), Some(x));
     }
     Ok(())
+}
+
+/// The product of the matrix with the rows (1, 2) and (4, 7) and the vector (3, 5): 3 + 1 and 7 + 6. An entry of the image
+/// that has no row stays.
+fn of_the_matrix() -> Option<[u64; 3]> {
+    let field = gf8()?;
+    let matrix = [MatrixRow::of(&[1, 2]), MatrixRow::of(&[4, 7])];
+    let mut image = [0, 0, 6];
+    transform(&field, &matrix, &[3, 5], &mut image);
+    Some(image)
+}
+
+#[test]
+fn a_matrix_times_a_vector(rt: HostRuntime) {
+    assert_eq!(rt; of_the_matrix(), Some([2, 1, 6]));
+}
+
+/// The sum of the elements of the field, which is 0, and of 1, 2 and 4, as a product with 10 columns.
+fn of_ten_columns() -> Option<[u64; 1]> {
+    let field = gf8()?;
+    let matrix = [MatrixRow::of(&[1, 2, 4, 3, 6, 7, 5, 1, 2, 4])];
+    let mut image = [0];
+    transform(&field, &matrix, &[1; 10], &mut image);
+    Some(image)
+}
+
+#[test]
+fn a_row_of_ten_columns(rt: HostRuntime) {
+    assert_eq!(rt; of_ten_columns(), Some([7]));
+}
+
+/// Products modulo X^64 + X^4 + X^3 + X + 1: X^63·X + (X + 1)·X^63, and the sum of all powers below X^64 times X.
+fn of_the_widest_field() -> Option<[u64; 2]> {
+    let ring = Ring::new(64, 0x1b);
+    if !ring.is_irreducible() {
+        return None;
+    }
+    let matrix = [MatrixRow::of(&[1 << 63, 3]), MatrixRow::of(&[u64::MAX])];
+    let mut image = [0; 2];
+    transform(
+        &FieldTables::new(Field::of(ring)),
+        &matrix,
+        &[2, 1 << 63],
+        &mut image,
+    );
+    Some(image)
+}
+
+#[test]
+fn a_matrix_over_the_widest_field(rt: HostRuntime) {
+    assert_eq!(rt;
+        of_the_widest_field(),
+        Some([1 << 63, 0xffff_ffff_ffff_ffe5])
+    );
 }

@@ -1,9 +1,9 @@
 -- One turn of a division from the lowest coefficient up.
-use Rattle.std.proofs.Common.{◌≡◌, ℕ, suc, ◌-◌, ◌^◌, ◌<◌, ◌≤◌, List, length, bit_xor, sym, ap, ◌∙◌, arith, inl, inr}
+use Rattle.std.proofs.Common.{◌≡◌, ℕ, suc, ◌-◌, ◌^◌, ◌<◌, ◌≤◌, List, length, take, bit_xor, sym, ap, ◌∙◌, arith, inl, inr}
 use Rattle.std.specs.Prelude.{slice_index}
 use Rattle.std.proofs.Math.Nat.{sub-zero}
 use Rattle.std.proofs.lemmas.Bool.{cases_lt}
-use Rattle.std.proofs.lemmas.List.{get_or_past}
+use Rattle.std.proofs.lemmas.List.{get_or_past, get_or-take, length-take}
 use Rattle.kk_field.specs.Field.{Modulus, field_product, frobenius}
 use Rattle.kk_field.proofs.Sums.{xor_cancel}
 use Rattle.kk_field.proofs.Residues.{field_product-zero, field_product_comm, field_product_assoc, field_product-one}
@@ -43,12 +43,12 @@ module _ (f : Modulus) (h : f.low < 2 ^ f.degree) where
       c_is ∙ ap (λ x. field_product f x inverse) (left_is ∙ field_product_comm f h b u)
       ∙ field_product_assoc f h u b inverse ∙ ap (field_product f u) one ∙ field_product-one f h u below
 
--- coefficients that agree below a place, and are 0 from there on
-pub same_up_to : (q u : List ℕ) (places s : ℕ) → length u ≤ places → places ≤ s → ((i : ℕ) → i < s → slice_index q i ≡ slice_index u i)
-    → ((n : ℕ) → s ≤ n → slice_index q n ≡ 0) → SamePolynomial q u
-same_up_to q u places s few at_end agree free = record {
-  coefficients = λ i. elim (cases_lt i s) [
-    | inl less ↦ agree i less
-    | inr past ↦ free i past ∙ sym (get_or_past u i 0 (omega (arith, past, few, at_end)))
+-- the first coefficients agree with those of a polynomial that has no more
+pub same_front : (cs u : List ℕ) (places : ℕ) → length u ≤ places → ((i : ℕ) → i < places → slice_index cs i ≡ slice_index u i)
+    → SamePolynomial (take places cs) u
+same_front cs u places few agree = record {
+  coefficients = λ i. elim (cases_lt i places) [
+    | inl less ↦ get_or-take places cs i 0 less ∙ agree i less
+    | inr past ↦ get_or_past (take places cs) i 0 (omega (arith, past, length-take places cs)) ∙ sym (get_or_past u i 0 (omega (arith, past, few)))
   ];
 }

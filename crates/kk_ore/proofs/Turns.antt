@@ -10,7 +10,14 @@ use Rattle.kk_field.specs.Field.{Modulus, field_product, frobenius}
 use Rattle.kk_linpoly.specs.LinPoly.{IsOver}
 use Rattle.kk_linpoly.proofs.Coefficients.{coefficient-lt, IsOver-from}
 
--- a is still the product and the remainder
+-- a is still the product and the remainder: at one place, and at all
+pub sum_at : (a whole whole' remainder remainder' term : ℕ) → a ≡ bit_xor whole remainder → whole' ≡ bit_xor whole term
+    → remainder' ≡ bit_xor remainder term → a ≡ bit_xor whole' remainder'
+sum_at a whole whole' remainder remainder' term sum whole_more remainder_more =
+    sum
+    ∙ sym (ap (λ x. bit_xor x remainder') whole_more ∙ ap (bit_xor (bit_xor whole term)) remainder_more
+    ∙ xor_xor_swap whole term remainder term ∙ ap (bit_xor (bit_xor whole remainder)) (xor_self term) ∙ xor_zero_r (bit_xor whole remainder))
+
 pub sum_more : (a whole whole' remainder remainder' term : ℕ → ℕ) (s : ℕ) → ((n : ℕ) → a n ≡ bit_xor (whole n) (remainder n))
     → ((n : ℕ) → n < s → whole' n ≡ whole n) → ((j : ℕ) → whole' (s + j) ≡ bit_xor (whole (s + j)) (term j))
     → ((n : ℕ) → n < s → remainder' n ≡ remainder n) → ((j : ℕ) → remainder' (s + j) ≡ bit_xor (remainder (s + j)) (term j))
@@ -24,11 +31,7 @@ sum_more a whole whole' remainder remainder' term s sum whole_before whole_more 
   where
     at : (j : ℕ) → a (s + j) ≡ bit_xor (whole' (s + j)) (remainder' (s + j))
     at j =
-        let w = whole (s + j) in
-        let r = remainder (s + j) in
-        sum (s + j)
-        ∙ sym (ap (λ x. bit_xor x (remainder' (s + j))) (whole_more j) ∙ ap (bit_xor (bit_xor w (term j))) (remainder_more j)
-        ∙ xor_xor_swap w (term j) r (term j) ∙ ap (bit_xor (bit_xor w r)) (xor_self (term j)) ∙ xor_zero_r (bit_xor w r))
+        sum_at (a (s + j)) (whole (s + j)) (whole' (s + j)) (remainder (s + j)) (remainder' (s + j)) (term j) (sum (s + j)) (whole_more j) (remainder_more j)
 
 -- the remainder ends one place earlier, where the last coefficient of the product, of k coefficients, was its own
 pub ends_more : (remainder remainder' term : ℕ → ℕ) (s k : ℕ) → 0 < k → ((n : ℕ) → s + 1 + k ≤ n + 1 → remainder n ≡ 0)

@@ -1,10 +1,9 @@
 //! Left division from the lowest coefficient up.
-ghost use Rattle.std.specs.Prelude.{◌≡◌, ◌≢◌, ℕ, List, ◌+◌, ◌-◌, ◌*◌, ◌^◌, ◌<◌, ◌≤◌, length, slice_index, bit_xor};
-ghost use Rattle.kk_field.specs.Laws.{IsFieldModulus};
+ghost use Rattle.std.specs.Prelude.{◌≡◌, ◌≢◌, ℕ, List, ◌+◌, ◌*◌, ◌^◌, ◌<◌, ◌≤◌, length, slice_index};
 ghost use Rattle.kk_linpoly.specs.LinPoly.{IsOver, SamePolynomial, trimmed, composition};
 
 use crate::left::add_term;
-use crate::places::{inverse_of, padded};
+use crate::places::inverse_of;
 use kk_field::Steps;
 use kk_linpoly::{LinPoly, MAX_COEFFICIENTS};
 use kk_tables::FieldTables;
@@ -28,33 +27,36 @@ pub fn exact_left<L: Ledger>(
         → result ≡ trimmed u }
     ensures cost { steps.new ≤ steps.old + 2 * field.now.degree + places * (1 + 2 * length b.now) }
 {
-    LinPoly::from_slice(&cancel(field, b.coeffs(), places, &mut padded(a.coeffs()), steps))
+    let a = a.coeffs();
+    let mut coefficients = [0; MAX_COEFFICIENTS];
+    coefficients[..a.len()].copy_from_slice(a);
+    cancel(field, b.coeffs(), places, &mut coefficients, steps);
+    LinPoly::from_slice(&coefficients[..places])
 }
 
-/// The coefficients of u, the lowest first. The composition of `b` and the term of each cancels a coefficient of `remainder`.
+/// Puts the coefficients of u into the first `places` places of `remainder`, the lowest first. The composition of `b` and the
+/// term of each cancels the coefficient that stood there.
 fn cancel<L: Ledger>(
     field: &FieldTables,
     b: &[u64],
     places: usize,
     remainder: &mut [u64; MAX_COEFFICIENTS],
     steps: &mut Steps<L>,
-) -> [u64; MAX_COEFFICIENTS]
+)
     requires of_field { IsOver field.now.degree b.now }
     requires starts { slice_index b.now 0 ≢ 0 }
     requires remainder_of_field { IsOver field.now.degree remainder.old }
     requires fits { places + length b.now ≤ 128 }
-    ensures of_field { IsOver field.now.degree result }
-    ensures only { (u : List ℕ) → IsOver field.now.degree u → length u ≤ places → SamePolynomial remainder.old (composition field.now b.now u)
-        → SamePolynomial result u }
+    ensures of_field { IsOver field.now.degree remainder.new }
+    ensures only { (u : List ℕ) → IsOver field.now.degree u → SamePolynomial remainder.old (composition field.now b.now u)
+        → (i : ℕ) → i < places → slice_index remainder.new i ≡ slice_index u i }
     ensures cost { steps.new ≤ steps.old + 2 * field.now.degree + places * (1 + 2 * length b.now) }
 {
     let ring = field.ring();
-    let mut quotient = [0; MAX_COEFFICIENTS];
     let inverse = inverse_of(field, b[0], steps);
     for s in 0..places {
         let c = ring.mul(remainder[s], inverse, steps);
-        quotient[s] = c;
         add_term(ring, b, c, remainder, s, steps);
+        remainder[s] = c;
     }
-    quotient
 }

@@ -1,5 +1,5 @@
 -- Additive maps of numbers, by the bytes of their argument.
-use Rattle.std.proofs.Common.{◌≡◌, ℕ, suc, ◌+◌, ◌-◌, ◌*◌, ◌/◌, ◌%◌, ◌^◌, ◌<◌, ◌≤◌, bit_xor, slice_index, sym, ap, ◌∙◌, arith}
+use Rattle.std.proofs.Common.{◌≡◌, ℕ, zero, suc, ◌+◌, ◌-◌, ◌*◌, ◌/◌, ◌%◌, ◌^◌, ◌<◌, ◌≤◌, bit_xor, slice_index, sym, ap, ◌∙◌, arith}
 use Rattle.std.proofs.Math.Nat.{mod-lt, mul_assoc, mul_comm, one-mul, add_comm, div-div-eq-div-mul}
 use Rattle.std.proofs.Math.Pow.{pow_pos, pow_mono, shr_lt}
 use Rattle.std.proofs.lemmas.Nat.{pow-add}
@@ -7,7 +7,7 @@ use Rattle.std.specs.Int.Bits.{xor_comm, xor_assoc}
 use Rattle.kk_field.proofs.Sums.{sums, xor_shl, by_digits}
 use Rattle.kk_field.proofs.Remainders.{HasDegree-modulus, xor-modulus, remainder_by, remainder-product_left}
 use Rattle.kk_field.proofs.Residues.{one_small, residue-below, residue-small, residue-xor, square-xor_residues, field_product-one}
-use Rattle.kk_field.proofs.Products.{product-pow, product-one, product-double, double-product}
+use Rattle.kk_field.proofs.Products.{zero-product, product-pow, product-one, product-double, double-product}
 use Rattle.kk_field.specs.Polynomial.{product}
 use Rattle.kk_field.specs.Field.{Modulus, polynomial, residue, field_product}
 use Rattle.kk_rows.specs.AdditiveMap.{IsAdditive}
@@ -138,17 +138,20 @@ low_and_high f h p =
     ∙ ap (bit_xor (residue f (p / 2 ^ m * 2 ^ m))) (residue-small f h (p % 2 ^ m) (mod-lt p (pow_pos m)))
     ∙ xor_comm (residue f (p / 2 ^ m * 2 ^ m)) (p % 2 ^ m))
 
-pub product-high : (a b m n : ℕ) → 1 ≤ m → m ≤ n → a < 2 ^ m → b < 2 ^ m → product a b / 2 ^ m < 2 ^ n
-product-high a b m n least most ha hb =
-    let e : suc (m - 1) ≡ m = omega arith in
-    let whole : product a b < 2 ^ (m + (m - 1)) = product-lt m a b (m - 1) ha (rw e hb) in
-    let le : m + (m - 1) ≤ n + m = omega arith in
-    let powers : 2 ^ (m + (m - 1)) ≤ 2 ^ (n + m) = pow_mono le in
-    shr_lt n m (omega (arith, whole, powers))
+pub product-fits : (a b m n : ℕ) → m ≤ n → a < 2 ^ m → b < 2 ^ m → product a b < 2 ^ (m + n)
+product-fits a b zero n most ha hb =
+    let none : a ≡ 0 = omega (arith, ha) in
+    rw (none, zero-product b) (pow_pos (0 + n))
+product-fits a b (suc m) n most ha hb =
+    let le : suc m + m ≤ suc m + n = omega (arith, most) in
+    let powers : 2 ^ (suc m + m) ≤ 2 ^ (suc m + n) = pow_mono le in
+    omega (arith, product-lt (suc m) a b m ha hb, powers)
 
-pub two_parts : (f : Modulus) → f.low < 2 ^ f.degree → (a b p r : ℕ) → p ≡ product a b → r ≡ reduction f (p / 2 ^ f.degree)
-    → (bit_xor (p % 2 ^ f.degree) r ≡ field_product f a b) × (bit_xor (p % 2 ^ f.degree) r < 2 ^ f.degree)
-unfolding field_product
-two_parts f h a b p r ep er =
+pub high_below : (m n p : ℕ) → p < 2 ^ (m + n) → p / 2 ^ m < 2 ^ n
+high_below m n p h = shr_lt n m (rw (add_comm n m) h)
+
+pub two_parts : (f : Modulus) → f.low < 2 ^ f.degree → (p r : ℕ) → r ≡ reduction f (p / 2 ^ f.degree)
+    → (bit_xor (p % 2 ^ f.degree) r ≡ residue f p) × (bit_xor (p % 2 ^ f.degree) r < 2 ^ f.degree)
+two_parts f h p r er =
     let whole : bit_xor (p % 2 ^ f.degree) r ≡ residue f p = ap (bit_xor (p % 2 ^ f.degree)) er ∙ low_and_high f h p in
-    (whole ∙ ap (residue f) ep, rw whole (residue-below f h p))
+    (whole, rw whole (residue-below f h p))

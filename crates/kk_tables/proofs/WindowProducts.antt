@@ -40,7 +40,7 @@ product-places a x k =
     ∙ ap (λ y. bit_xor y (product a (x % 2 ^ k))) (product-shl a k (x / 2 ^ k))
 
 -- the next digit of four bits
-digit_next : (a b s sum : ℕ) → sum ≡ product a (b / 2 ^ (s + 4)) → bit_xor (sum * 16) (product a (b / 2 ^ s % 16)) ≡ product a (b / 2 ^ s)
+pub digit_next : (a b s sum : ℕ) → sum ≡ product a (b / 2 ^ (s + 4)) → bit_xor (sum * 16) (product a (b / 2 ^ s % 16)) ≡ product a (b / 2 ^ s)
 digit_next a b s sum e =
     let down : b / 2 ^ s / 2 ^ 4 ≡ b / 2 ^ (s + 4) = div-div-eq-div-mul b (2 ^ s) (2 ^ 4) ∙ ap (λ n. b / n) (sym (pow-add 2 s 4)) in
     sym (product-places a (b / 2 ^ s) 4 ∙ ap (λ q. bit_xor (product a q * 2 ^ 4) (product a (b / 2 ^ s % 2 ^ 4))) down

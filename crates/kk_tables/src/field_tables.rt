@@ -1,6 +1,6 @@
 //! The field GF(2^m) with its tables.
 ghost use Rattle.std.specs.Prelude.{◌≡◌, ◌+◌, ◌*◌, ◌^◌, ◌<◌, ◌≤◌, ◌↔◌, IsNone, IfSome};
-ghost use Rattle.kk_field.specs.Field.{field_product, frobenius};
+ghost use Rattle.kk_field.specs.Field.{residue, field_product, frobenius};
 ghost use Rattle.kk_field.specs.Laws.{IsFieldModulus, IsInverse};
 
 use crate::bytes::{ENTRIES, image_of, make_table};
@@ -101,6 +101,42 @@ impl FieldTables {
         Field::of(Ring::new(self.m, self.low))
     }
 
+    /// The residue of `p`, whose part above m has at most `bytes` bytes.
+    #[inline(always)]
+    fn reduced(&self, p: u64, bytes: u32) -> u64
+        requires narrow { self.now.degree < 64 }
+        requires few { bytes ≤ 8 }
+        requires p_below { p < 2 ^ (self.now.degree + 8 * bytes) }
+        ensures value { result ≡ residue self.now p }
+        ensures below { result < 2 ^ self.now.degree }
+        ensures irreducible { IsFieldModulus self.now }
+    {
+        (p % (1 << self.m)) ^ image_of(&self.high, p >> self.m, bytes as usize)
+    }
+
+    /// The residue of a word in a field of degree at most 32: its lowest m bits plus the residue of those above.
+    #[inline(always)]
+    pub fn reduce_narrow(&self, p: u64) -> u64
+        requires narrow { self.now.degree ≤ 32 }
+        requires p_below { p < 2 ^ (self.now.degree + 32) }
+        ensures value { result ≡ residue self.now p }
+        ensures below { result < 2 ^ self.now.degree }
+        ensures irreducible { IsFieldModulus self.now }
+    {
+        self.reduced(p, 4)
+    }
+
+    /// The residue of a word of 128 bits: its lowest m bits plus the residue of those above.
+    #[inline(always)]
+    pub fn reduce_wide(&self, p: u128) -> u64
+        requires { p < 2 ^ (self.now.degree + 64) }
+        ensures value { result ≡ residue self.now p }
+        ensures below { result < 2 ^ self.now.degree }
+        ensures irreducible { IsFieldModulus self.now }
+    {
+        (p % (1 << self.m)) as u64 ^ image_of(&self.high, (p >> self.m) as u64, 8)
+    }
+
     /// The product of two elements of at most `bytes` bytes, in words of 64 bits.
     #[inline(always)]
     fn narrow(&self, a: u64, b: u64, bytes: u32) -> u64
@@ -111,8 +147,7 @@ impl FieldTables {
         ensures value { result ≡ field_product self.now a b }
         ensures below { result < 2 ^ self.now.degree }
     {
-        let p = narrow_product(a, b, 2 * bytes);
-        (p % (1 << self.m)) ^ image_of(&self.high, p >> self.m, bytes as usize)
+        self.reduced(narrow_product(a, b, 2 * bytes), bytes)
     }
 
     /// The product of two elements, in words of 128 bits.
@@ -123,8 +158,8 @@ impl FieldTables {
         ensures value { result ≡ field_product self.now a b }
         ensures below { result < 2 ^ self.now.degree }
     {
-        let p = wide_product(a, b);
-        (p % (1 << self.m)) as u64 ^ image_of(&self.high, (p >> self.m) as u64, 8)
+        let _ = &self.m;
+        self.reduce_wide(wide_product(a, b))
     }
 
     /// The product of two elements: their carry-less product, whose places from m on are reduced by the table.

@@ -8,4 +8,4 @@ pub mod bytes;
 mod field_tables;
 #[cfg(test)]
 mod tests;
-mod windows;
+pub mod windows;

@@ -4,7 +4,7 @@ ghost use Rattle.std.specs.Prelude.{◌≡◌, ℕ, ◌*◌, ◌^◌, ◌<◌, �
 ghost use Rattle.kk_field.specs.Polynomial.{product};
 
 /// The products of `a` and the numbers below 16.
-fn narrow_window(a: u64) -> [u64; 16]
+pub fn narrow_window(a: u64) -> [u64; 16]
     requires { a < 2 ^ 32 }
     ensures { (k : ℕ) → k < 16 → slice_index result k ≡ product a k }
 {
@@ -34,7 +34,7 @@ pub(crate) fn narrow_product(a: u64, b: u64, digits: u32) -> u64
 }
 
 /// The products of `a` and the numbers below 16.
-fn wide_window(a: u64) -> [u128; 16]
+pub fn wide_window(a: u64) -> [u128; 16]
     ensures { (k : ℕ) → k < 16 → slice_index result k ≡ product a k }
 {
     let mut table = [0; 16];

@@ -6,7 +6,7 @@ use Rattle.kk_field.specs.Laws.{IsFieldModulus}
 use Rattle.kk_interp.specs.BiPoly.{value_at}
 use Rattle.kk_interp.specs.State.{IsKept}
 use Rattle.kk_interp.specs.Steps.{Cancels}
-use Rattle.kk_interp.proofs.Pairs.{at_least_from_false, Cancels-none, Cancels-x, Cancels-y, Cancels-both_x, Cancels-both_y}
+use Rattle.kk_interp.proofs.Pairs.{at_least_from_false, IsCombined-sym, Cancels-none, Cancels-x, Cancels-y, Cancels-both_x, Cancels-both_y}
 use Rattle.kk_interp.proofs.States.{IsKept-point, state}
 use Rattle.kk_interp.proofs.interp.Interp.point.Given.{Over}
 use Rattle.kk_interp.proofs.interp.Interp.point.Goals as goal
@@ -62,40 +62,41 @@ pub invariant_of-self-in-0-default : goal.invariant_of-self-in-0-default
 invariant_of-self-in-0-default g c =
     let i = c.self.inside in
     let f = modulus g (goal.at.invariant_of-self-in-0-default g c).After-eval-w in
-    kept g (goal.at.invariant_of-self-in-0-default g c).After-eval-w i.x_leading c.raised-self-inside.result
-    (subst (λ v. Cancels c.args.field.now i.k v c.eval-w.result i.x_leading i.y_leading i.x_leading c.raised-self-inside.result) (sym c.in-0-default.is-0)
-    (Cancels-y c.args.field.now f.modulus.low_below f.irreducible i.k c.eval-w.result i.x_leading i.y_leading c.raised-self-inside.result
-    c.eval-w.ensures.below c.in-0-default.is-1.1 c.raised-self-inside.ensures.raised))
+    kept g (goal.at.invariant_of-self-in-0-default g c).After-eval-w i.x_leading c.raise.new.self
+    (subst (λ v. Cancels c.args.field.now i.k v c.eval-w.result i.x_leading i.y_leading i.x_leading c.raise.new.self) (sym c.in-0-default.is-0)
+    (Cancels-y c.args.field.now f.modulus.low_below f.irreducible i.k c.eval-w.result i.x_leading i.y_leading c.raise.new.self
+    c.eval-w.ensures.below c.in-0-default.is-1.1 c.raise.ensures.raised))
 
 pub invariant_of-self-in_default-eq0 : goal.invariant_of-self-in_default-eq0
 invariant_of-self-in_default-eq0 g c =
     let i = c.self.inside in
     let f = modulus g (goal.at.invariant_of-self-in_default-eq0 g c).After-eval-w in
-    let new = c.raised-self-inside-in_default-eq0 in
-    kept g (goal.at.invariant_of-self-in_default-eq0 g c).After-eval-w new.result i.y_leading
-    (subst (λ w. Cancels c.args.field.now i.k c.eval-v.result w i.x_leading i.y_leading new.result i.y_leading) (sym c.in_default-eq0.is-1)
-    (Cancels-x c.args.field.now f.modulus.low_below f.irreducible i.k c.eval-v.result i.x_leading i.y_leading new.result
+    let new = c.raise-in_default-eq0 in
+    kept g (goal.at.invariant_of-self-in_default-eq0 g c).After-eval-w new.new.self i.y_leading
+    (subst (λ w. Cancels c.args.field.now i.k c.eval-v.result w i.x_leading i.y_leading new.new.self i.y_leading) (sym c.in_default-eq0.is-1)
+    (Cancels-x c.args.field.now f.modulus.low_below f.irreducible i.k c.eval-v.result i.x_leading i.y_leading new.new.self
     c.eval-v.ensures.below c.in_default-eq0.is-0.1 new.ensures.raised))
 
 pub invariant_of-self-then-x_is_least : goal.invariant_of-self-then-x_is_least
 invariant_of-self-then-x_is_least g c =
     let i = c.self.inside in
     let f = modulus g (goal.at.invariant_of-self-then-x_is_least g c).After-eval-w in
-    let sum = c.combined-sum in
-    let new = c.raised-self-inside-then-x_is_least in
-    kept g (goal.at.invariant_of-self-then-x_is_least g c).After-eval-w new.result sum.result
-    (Cancels-both_x c.args.field.now f.modulus.low_below f.irreducible i.k c.eval-v.result c.eval-w.result i.x_leading i.y_leading sum.result new.result
-    c.eval-v.ensures.below c.in_default.is-0.1 c.eval-w.ensures.below c.in_default.is-1.1 sum.ensures.combined
+    let sum = c.combine in
+    let new = c.raise-then-x_is_least in
+    kept g (goal.at.invariant_of-self-then-x_is_least g c).After-eval-w new.new.self sum.new.self
+    (Cancels-both_x c.args.field.now f.modulus.low_below f.irreducible i.k c.eval-v.result c.eval-w.result i.x_leading i.y_leading sum.new.self new.new.self
+    c.eval-v.ensures.below c.in_default.is-0.1 c.eval-w.ensures.below c.in_default.is-1.1
+    (IsCombined-sym c.args.field.now c.eval-v.result i.y_leading c.eval-w.result i.x_leading sum.new.self sum.ensures.combined)
     (c.x_is_least.ensures.0 c.if-x_is_least.true) new.ensures.raised)
 
 pub invariant_of-self-else-x_is_least : goal.invariant_of-self-else-x_is_least
 invariant_of-self-else-x_is_least g c =
     let i = c.self.inside in
     let f = modulus g (goal.at.invariant_of-self-else-x_is_least g c).After-eval-w in
-    let sum = c.combined-sum in
-    let new = c.raised-self-inside-else-x_is_least in
-    kept g (goal.at.invariant_of-self-else-x_is_least g c).After-eval-w sum.result new.result
-    (Cancels-both_y c.args.field.now f.modulus.low_below f.irreducible i.k c.eval-v.result c.eval-w.result i.x_leading i.y_leading sum.result new.result
+    let sum = c.combine-else-x_is_least in
+    let new = c.raise-else-x_is_least in
+    kept g (goal.at.invariant_of-self-else-x_is_least g c).After-eval-w sum.new.self new.new.self
+    (Cancels-both_y c.args.field.now f.modulus.low_below f.irreducible i.k c.eval-v.result c.eval-w.result i.x_leading i.y_leading sum.new.self new.new.self
     c.eval-v.ensures.below c.in_default.is-0.1 c.eval-w.ensures.below c.in_default.is-1.1 sum.ensures.combined
     (at_least_from_false (length i.x_leading.qx) (length i.y_leading.qy + i.k) c.x_is_least.result c.x_is_least.ensures c.if-x_is_least.false)
     new.ensures.raised)

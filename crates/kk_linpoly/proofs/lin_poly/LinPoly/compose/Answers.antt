@@ -1,15 +1,15 @@
-use Rattle.std.proofs.Common.{◌≡◌, ◌-◌, ◌*◌, ◌<◌, ◌≤◌, ◌^◌, List, ℕ, length, take, map, ap, ◌∙◌, sym, subst, arith}
+use Rattle.std.proofs.Common.{◌≡◌, ◌+◌, ◌-◌, ◌*◌, ◌<◌, ◌≤◌, ◌^◌, List, ℕ, length, take, map, ap, ◌∙◌, sym, subst, arith}
 use Rattle.std.specs.Prelude.{slice_index}
-use Rattle.std.proofs.lemmas.List.{length-take-le, length-map}
+use Rattle.std.proofs.lemmas.List.{get_or_past, length-take, length-take-le, length-map}
 use Rattle.kk_field.specs.Field.{Modulus, frobenius}
 use Rattle.kk_field.proofs.Elimination.{slice_index-zeros}
-use Rattle.kk_linpoly.specs.LinPoly.{IsOver, trimmed, composition}
-use Rattle.kk_linpoly.proofs.Coefficients.{IsOver-composition, length-composition}
-use Rattle.kk_linpoly.proofs.Stored.{IsOver-trimmed, length-trimmed_of}
+use Rattle.kk_linpoly.specs.LinPoly.{IsOver, trimmed, composed, composition}
+use Rattle.kk_linpoly.proofs.Coefficients.{composed-past, IsOver-composition, length-composition}
+use Rattle.kk_linpoly.proofs.Stored.{count_of, IsOver-trimmed, length-trimmed_of}
 use Rattle.kk_linpoly.proofs.ComposeLoop.{rounds_cost, composed-none, IsOver-powers, powers_started, next_powers, round, all_rounds}
 use Rattle.kk_linpoly.proofs.lin_poly.LinPoly.compose.Given.{Over}
 use Rattle.kk_linpoly.proofs.lin_poly.LinPoly.compose.Goals as goal
-use Rattle.kk_linpoly.proofs.lin_poly.LinPoly.compose.Goals.{After-from_array}
+use Rattle.kk_linpoly.proofs.lin_poly.LinPoly.compose.Goals.{After-from_places}
 
 pub loop-i-init : goal.loop-i-init
 loop-i-init g c =
@@ -57,25 +57,43 @@ loop-i-preserved g c =
       counted = omega (arith, inv.counted, c.add_multiple.ensures.cost, c.square_each.ensures.cost, places);
     }
 
-value_is : (g : Over) (c : After-from_array g) → c.from_array.result ≡ trimmed (composition c.args.field.now c.args.self.now c.args.g.now)
+-- there is nothing past the end of the composition
+past_end : (f : Modulus) → f.low < 2 ^ f.degree → (cs ds sum : List ℕ) (i n : ℕ)
+    → ((n : ℕ) → slice_index sum n ≡ composed f (slice_index (take i cs)) (slice_index ds) n) → length cs + length ds - 1 ≤ n → slice_index sum n ≡ 0
+past_end f low cs ds sum i n sum_is past =
+    sum_is n
+    ∙ composed-past f low (slice_index (take i cs)) (slice_index ds) (length cs) (length ds) n
+    (λ j from. get_or_past (take i cs) j 0 (omega (arith, from, length-take i cs))) (λ j. get_or_past ds j 0) past
+
+pub from_places-requires-clause-ends : goal.from_places-requires-clause-ends
+from_places-requires-clause-ends g c n past =
+    let cs = c.coeffs-c-items.result.now in
+    let ds = c.args.g.now in
+    let count = count_of c.self.inside.len c.self.inside.coefficients c.args.self.now c.self.invariant c.self.view_is in
+    let g_count = count_of c.g.inside.len c.g.inside.coefficients ds c.g.invariant c.g.view_is in
+    let end : length cs + length ds - 1 ≤ n =
+    omega (arith, past, c.saturating_sub.ensures, ap length c.coeffs-c-items.ensures.value, count, g_count) in
+    past_end c.ring-ring.result.now c.ring-ring.ensures.irreducible.modulus.low_below cs ds c.loop-i.sum c.loop-i.i n c.loop-i.invariant.sum_is end
+
+value_is : (g : Over) (c : After-from_places g) → c.from_places.result ≡ trimmed (composition c.args.field.now c.args.self.now c.args.g.now)
 value_is g c =
     let f = c.ring-ring.result.now in
     let cs = c.coeffs-c-items.result.now in
     let ds = c.args.g.now in
-    c.from_array.ensures
+    c.from_places.ensures
     ∙ all_rounds f c.ring-ring.ensures.irreducible.modulus.low_below cs ds c.loop-i.sum c.loop-i.i c.loop-i-test.false c.loop-i.invariant.sum_is
     ∙ ap (λ f. trimmed (composition f cs ds)) c.ring-ring.ensures.value
     ∙ ap (λ l. trimmed (composition c.args.field.now l ds)) c.coeffs-c-items.ensures.value
 
 pub returns-clause-value : goal.returns-clause-value
-returns-clause-value g c = value_is g (goal.at.returns-clause-value g c).After-from_array
+returns-clause-value g c = value_is g (goal.at.returns-clause-value g c).After-from_places
 
 pub returns-clause-of_field : goal.returns-clause-of_field
 returns-clause-of_field g c =
     let f = c.args.field.now in
     let low = subst (λ f. f.low < 2 ^ f.degree) c.ring-ring.ensures.value c.ring-ring.ensures.irreducible.modulus.low_below in
-    IsOver-trimmed f.degree c.from_array.result (composition f c.args.self.now c.args.g.now)
-    (value_is g (goal.at.returns-clause-of_field g c).After-from_array) (IsOver-composition f low c.args.self.now c.args.g.now)
+    IsOver-trimmed f.degree c.from_places.result (composition f c.args.self.now c.args.g.now)
+    (value_is g (goal.at.returns-clause-of_field g c).After-from_places) (IsOver-composition f low c.args.self.now c.args.g.now)
 
 pub returns-clause-cost : goal.returns-clause-cost
 returns-clause-cost g c =
@@ -90,5 +108,5 @@ returns-clause-len g c =
     omega (
       arith,
       length-composition f c.args.self.now c.args.g.now,
-      length-trimmed_of c.from_array.result (composition f c.args.self.now c.args.g.now) (value_is g (goal.at.returns-clause-len g c).After-from_array),
+      length-trimmed_of c.from_places.result (composition f c.args.self.now c.args.g.now) (value_is g (goal.at.returns-clause-len g c).After-from_places),
     )

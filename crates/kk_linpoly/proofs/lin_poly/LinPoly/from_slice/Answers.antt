@@ -1,24 +1,22 @@
-use Rattle.std.proofs.Common.{◌≡◌, ◌-◌, ◌++◌, length, drop, replicate, ap, ◌∙◌}
-use Rattle.std.proofs.lemmas.List.{drop-replicate}
-use Rattle.kk_linpoly.specs.LinPoly.{trimmed}
-use Rattle.kk_linpoly.proofs.Trimmed.{trimmed-same}
-use Rattle.kk_linpoly.proofs.Stored.{SamePolynomial-append_zeros, IsOver-trimmed, length-trimmed_of}
+use Rattle.std.proofs.Common.{◌++◌, drop, replicate}
+use Rattle.kk_linpoly.proofs.Stored.{IsStoredAs, stored_front, IsOver-trimmed, length-trimmed_of}
 use Rattle.kk_linpoly.proofs.lin_poly.LinPoly.from_slice.Goals as goal
-use Rattle.kk_linpoly.proofs.lin_poly.LinPoly.from_slice.Goals.{After-from_array}
+use Rattle.kk_linpoly.proofs.lin_poly.LinPoly.from_slice.Goals.{After-copy_from_slice}
 
-value_is : (c : After-from_array) → c.from_array.result ≡ trimmed c.args.c.now
-value_is c =
-    let cs = c.args.c.now in
-    c.from_array.ensures ∙ ap (λ l. trimmed (l ++ drop (length cs) (replicate 128 0))) c.copy_from_slice.ensures.after
-    ∙ ap (λ l. trimmed (cs ++ l)) (drop-replicate (length cs) 128 0)
-    ∙ trimmed-same _ cs (SamePolynomial-append_zeros cs (128 - length cs))
+stored : (c : After-copy_from_slice) → IsStoredAs c.trimmed_len-len.result (c.copy_from_slice.new.self ++ drop c.trimmed_len-len.result (replicate 128 0)) c.args.c.now
+stored c =
+    stored_front c.trimmed_len-len.result c.args.c.now c.copy_from_slice.new.self c.trimmed_len-len.ensures.within c.requires
+    c.trimmed_len-len.ensures.front c.copy_from_slice.ensures.after
+
+pub invariant_of-result : goal.invariant_of-result
+invariant_of-result c = (stored (goal.at.invariant_of-result c).After-copy_from_slice).stored
 
 pub returns-clause-value : goal.returns-clause-value
-returns-clause-value c = value_is (goal.at.returns-clause-value c).After-from_array
+returns-clause-value c = (stored (goal.at.returns-clause-value c).After-copy_from_slice).value
 
 pub returns-clause-of_field : goal.returns-clause-of_field
 returns-clause-of_field c m over =
-    IsOver-trimmed m c.from_array.result c.args.c.now (value_is (goal.at.returns-clause-of_field c).After-from_array) over
+    IsOver-trimmed m _ c.args.c.now (stored (goal.at.returns-clause-of_field c).After-copy_from_slice).value over
 
 pub returns-clause-len : goal.returns-clause-len
-returns-clause-len c = length-trimmed_of c.from_array.result c.args.c.now (value_is (goal.at.returns-clause-len c).After-from_array)
+returns-clause-len c = length-trimmed_of _ c.args.c.now (stored (goal.at.returns-clause-len c).After-copy_from_slice).value

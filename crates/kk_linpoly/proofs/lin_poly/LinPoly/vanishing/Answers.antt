@@ -23,8 +23,8 @@ loop-p-preserved g c =
     let inv = c.loop-p.invariant in
     record {
       so_far = Vanishes-more f is.modulus.low_below (one_small f.degree is.modulus.at_least_one) c.args.points.now c.loop-p.p-index c.eval-at.result
-          c.loop-p.v c.raised-v.result c.loop-p-test.true inv.so_far c.eval-at.ensures.value c.raised-v.ensures.value;
-      counted = omega (arith, inv.counted, inv.so_far.count, c.eval-at.ensures.cost, c.raised-v.ensures.cost);
+          c.loop-p.v c.raise.new.self c.loop-p-test.true inv.so_far c.eval-at.ensures.value c.raise.ensures.value;
+      counted = omega (arith, inv.counted, inv.so_far.count, c.eval-at.ensures.cost, c.raise.ensures.cost);
     }
 
 -- the loop is through

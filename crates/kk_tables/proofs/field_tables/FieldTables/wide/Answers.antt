@@ -1,42 +1,12 @@
-use Rattle.std.proofs.Common.{◌≡◌, ◌*◌, ◌/◌, ◌%◌, ◌^◌, ◌<◌, bit_xor, arith, sym, subst}
-use Rattle.std.proofs.lemmas.Nat.{one_shl}
-use Rattle.kk_field.specs.Field.{Modulus, field_product}
-use Rattle.kk_tables.specs.Tables.{reduction}
-use Rattle.kk_tables.proofs.ByteImages.{IsAdditive-reduction, product-high, two_parts}
+use Rattle.std.proofs.Common.{◌≤◌, ap, subst, ◌∙◌}
+use Rattle.kk_field.specs.Field.{residue, field_product}
+use Rattle.kk_tables.proofs.ByteImages.{product-fits}
 use Rattle.kk_tables.proofs.field_tables.FieldTables.wide.Goals as goal
 
-pub overflow_cast-p : goal.overflow_cast-p
-overflow_cast-p c =
-    let m = c.self.inside.m in
-    let a_below : c.args.a < 2 ^ m = subst (λ f. c.args.a < 2 ^ f.degree) (sym c.self.view_is) c.requires.a_below in
-    let b_below : c.args.b < 2 ^ m = subst (λ f. c.args.b < 2 ^ f.degree) (sym c.self.view_is) c.requires.b_below in
-    record { fits = rw c.wide_product-p.ensures (product-high c.args.a c.args.b m 64 c.self.invariant.1.modulus.at_least_one c.self.invariant.0 a_below b_below) }
-
-pub image_of-requires-clause-x_below : goal.image_of-requires-clause-x_below
-image_of-requires-clause-x_below c =
-    let m = c.self.inside.m in
-    let a_below : c.args.a < 2 ^ m = subst (λ f. c.args.a < 2 ^ f.degree) (sym c.self.view_is) c.requires.a_below in
-    let b_below : c.args.b < 2 ^ m = subst (λ f. c.args.b < 2 ^ f.degree) (sym c.self.view_is) c.requires.b_below in
-    rw c.wide_product-p.ensures (product-high c.args.a c.args.b m 64 c.self.invariant.1.modulus.at_least_one c.self.invariant.0 a_below b_below)
+pub reduce_wide-requires : goal.reduce_wide-requires
+reduce_wide-requires c =
+    rw c.wide_product.ensures (product-fits c.args.a c.args.b c.args.self.now.degree 64 (subst (λ f. f.degree ≤ 64) c.self.view_is c.self.invariant.0) c.requires.a_below c.requires.b_below)
 
 pub returns-clause-value : goal.returns-clause-value
-returns-clause-value c =
-    let i = c.self.inside in
-    let f : Modulus = record { degree = i.m; low = i.low } in
-    let h = c.self.invariant.1.modulus.low_below in
-    let p = c.wide_product-p.result in
-    let r : c.image_of.result ≡ reduction f (p / 2 ^ i.m) = c.image_of.ensures.image (reduction f) (IsAdditive-reduction f h) c.self.invariant.2 in
-    let within : i.m < 128 = omega (arith, c.self.invariant.0) in
-    subst (λ f. bit_xor (p % (1 * 2 ^ i.m % 340282366920938463463374607431768211456)) c.image_of.result ≡ field_product f c.args.a c.args.b) c.self.view_is
-    (rw (one_shl i.m 128 within) (two_parts f h c.args.a c.args.b p c.image_of.result c.wide_product-p.ensures r).0)
-
-pub returns-clause-below : goal.returns-clause-below
-returns-clause-below c =
-    let i = c.self.inside in
-    let f : Modulus = record { degree = i.m; low = i.low } in
-    let h = c.self.invariant.1.modulus.low_below in
-    let p = c.wide_product-p.result in
-    let r : c.image_of.result ≡ reduction f (p / 2 ^ i.m) = c.image_of.ensures.image (reduction f) (IsAdditive-reduction f h) c.self.invariant.2 in
-    let within : i.m < 128 = omega (arith, c.self.invariant.0) in
-    subst (λ f. bit_xor (p % (1 * 2 ^ i.m % 340282366920938463463374607431768211456)) c.image_of.result < 2 ^ f.degree) c.self.view_is
-    (rw (one_shl i.m 128 within) (two_parts f h c.args.a c.args.b p c.image_of.result c.wide_product-p.ensures r).1)
+unfolding field_product
+returns-clause-value c = c.reduce_wide.ensures.value ∙ ap (residue c.args.self.now) c.wide_product.ensures
