@@ -1,5 +1,5 @@
 -- The sum of the steps of a decoding.
-use Rattle.std.proofs.Common.{◌≡◌, ℕ, ◌+◌, ◌*◌, ◌^◌, ◌≤◌, ap, ◌∙◌, arith}
+use Rattle.std.proofs.Common.{◌≡◌, ℕ, ◌+◌, ◌-◌, ◌*◌, ◌^◌, ◌≤◌, ap, ◌∙◌, arith}
 use Rattle.std.proofs.Math.Nat.{pow-suc, pow-zero, one-mul}
 use Rattle.std.proofs.lemmas.Nat.{mul-le}
 
@@ -9,11 +9,14 @@ pub record Sizes (n k r : ℕ) : Type 0 where
   pub symbols : 2 * k ≤ n
   pub rank : r + k ≤ n
 
--- with at least three bits a row, a cube is three squares or more
-three_squares : (n : ℕ) → 3 ≤ n → 3 * (n * n) ≤ n ^ 3
-three_squares n three =
+cube_is : (n : ℕ) → n ^ 3 ≡ n * (n * n)
+cube_is n =
     let cube : n ^ 3 ≡ n * n * n = pow-suc n 2 ∙ ap (λ a. a * n) (pow-suc n 1 ∙ ap (λ a. a * n) (pow-suc n 0 ∙ ap (λ a. a * n) (pow-zero n) ∙ one-mul n)) in
-    omega (arith, cube, mul-le (n * n) 3 (n * n) n (omega arith) three)
+    omega (arith, cube)
+
+-- each of l points costs k (k + 1), the first k and the others
+pub map_cost : (l k : ℕ) → k ≤ l → k * (k * (k + 1)) + (l - k) * (k * (k + 1)) ≡ l * (k * (k + 1))
+map_cost l k few = let all : k + (l - k) ≡ l = omega (arith, few) in omega (arith, ap (λ a. a * (k * (k + 1))) all)
 
 module _ (n : ℕ) where
   -- s is how many points and coefficients there are at each point
@@ -27,5 +30,15 @@ module _ (n : ℕ) where
   pub values_cost : (r k : ℕ) → r ≤ n → 2 * k ≤ n → r * (2 * k) ≤ n * n
   values_cost r k few short = mul-le r (2 * k) n n few short
 
-  pub all_fits : (s : ℕ) → 3 ≤ n → s ≤ 192 * (n * n) → s ≤ 64 * n ^ 3
-  all_fits s three few = omega (arith, few, three_squares n three)
+  -- the map of the code: its weights, and the values of its columns
+  pub map_fits : (l m k : ℕ) → l ≤ n → m ≤ n → 3 ≤ n → 2 * k ≤ n
+      → k + k * (4 * k + 2 * m + 1) + l * (k * (k + 1)) ≤ 6 * (n * n) + n * (n * n)
+  map_fits l m k points field three short =
+      let few : k ≤ n = omega (arith, short) in
+      let weights = mul-le k (4 * k + 2 * m + 1) n (5 * n) few (omega (arith, short, field, three)) in
+      let values = mul-le l (k * (k + 1)) n (n * n) points (mul-le k (k + 1) n n few (omega (arith, short, three))) in
+      omega (arith, weights, values, mul-le k 1 n n few (omega (arith, three)))
+
+  -- with at least three bits a row, a cube is three squares or more
+  pub all_fits : (s : ℕ) → 3 ≤ n → s ≤ 189 * (n * n) + n * (n * n) → s ≤ 64 * n ^ 3
+  all_fits s three few = omega (arith, few, cube_is n, mul-le 3 (n * n) n (n * n) three (omega arith))

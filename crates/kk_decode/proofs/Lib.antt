@@ -7,4 +7,6 @@ pub mod Answering
 pub mod Losses
 pub mod Kernels
 pub mod Offsets
+pub mod Columns
 pub mod Costs
+pub mod Elements

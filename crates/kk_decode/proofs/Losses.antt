@@ -1,14 +1,10 @@
 -- What a loss is to the distance.
-use Rattle.std.proofs.Common.{◌≡◌, ℕ, ◌+◌, ◌-◌, ◌*◌, ◌≤◌, List, ◌++◌, arith}
-use Rattle.std.specs.Prelude.{All, IsTrue}
-use Rattle.kk_rows.specs.Span.{in_span, dimension}
-use Rattle.kk_rows.specs.Distance.{distance}
+use Rattle.std.proofs.Common.{◌++◌, arith}
 use Rattle.kk_rows.proofs.Spans.{in_span-within, in_span-append_within}
 use Rattle.kk_rows.proofs.Dimensions.{dimension-le_within}
 use Rattle.kk_rows.proofs.Meets.{dimension-le_sum_left, sum_dimension-le}
 use Rattle.kk_rows.proofs.Distances.{distance_by_meet, distance_by_sum, meet_dimension-le_left, meet_dimension-le_right, meet_dimension_comm, sum_dimension_comm}
-use Rattle.kk_code.specs.Codeword.{Parameters, IsCode, codeword}
-use Rattle.kk_code.specs.Decoding.{erased, injected}
+use Rattle.kk_code.specs.Codeword.{codeword}
 use Rattle.kk_code.proofs.Graphs.{dimension-codeword}
 use Rattle.kk_decode.specs.Laws.{DistanceIsTheLoss, PartIsWithinTheRadius}
 

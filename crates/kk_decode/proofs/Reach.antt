@@ -1,7 +1,6 @@
 -- Which spaces can decode, and that this depends on the span alone.
-use Rattle.std.proofs.Common.{◌≡◌, ℕ, ◌+◌, ◌-◌, ◌*◌, ◌<◌, ◌≤◌, List, refl, sym, subst, arith}
+use Rattle.std.proofs.Common.{◌≡◌, ℕ, ◌+◌, ◌-◌, ◌*◌, ◌≤◌, List, refl, subst, arith}
 use Rattle.kk_rows.specs.Span.{in_span, dimension}
-use Rattle.kk_rows.specs.Distance.{distance}
 use Rattle.kk_rows.proofs.Distances.{distance_by_meet, distance-same_span, meet_dimension-le_left, meet_dimension-le_right}
 use Rattle.kk_code.specs.Codeword.{Parameters, IsCode, codeword}
 use Rattle.kk_code.specs.Decoding.{Decodes}

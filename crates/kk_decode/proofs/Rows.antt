@@ -1,10 +1,9 @@
 -- The rows of a space and what is 0 on them.
-use Rattle.std.proofs.Common.{◌≡◌, ℕ, ◌+◌, ◌*◌, ◌/◌, ◌%◌, ◌^◌, ◌<◌, ◌≤◌, true, List, [], ◌∷◌, ◌++◌, map, length, take, drop, take-append-drop, refl, sym, ap, ap₂, ◌∙◌, subst, bit_xor, arith}
+use Rattle.std.proofs.Common.{◌≡◌, ℕ, ◌+◌, ◌*◌, ◌/◌, ◌%◌, ◌^◌, ◌<◌, ◌≤◌, List, [], ◌∷◌, ◌++◌, map, length, take, drop, take-append-drop, sym, ap, ap₂, ◌∙◌, subst, bit_xor, arith}
 use Rattle.std.specs.Prelude.{All}
-use Rattle.std.proofs.Math.Pow.{pow_mono}
 use Rattle.std.proofs.Math.Nat.{zero-div, zero-mod, lt-mul-div-succ}
 use Rattle.std.specs.Int.Bits.{xor_zero_l}
-use Rattle.std.proofs.lemmas.Nat.{pow-add, pow_pos, div_below, xor_shr, xor_mod}
+use Rattle.std.proofs.lemmas.Nat.{pow_pos, xor_shr, xor_mod}
 use Rattle.std.proofs.lemmas.List.Elements.{All-nil, All-cons, All-head, All-tail}
 use Rattle.kk_field.specs.Field.{Modulus}
 use Rattle.kk_field.proofs.Sums.{xor_xor_swap}
@@ -15,7 +14,7 @@ use Rattle.kk_rows.specs.declared.rows.Row.{Row}
 use Rattle.kk_rows.specs.Rows.{numbers}
 use Rattle.kk_rows.specs.Echelon.{IsReduced}
 use Rattle.kk_rows.proofs.Reduced.{dimension_reduced}
-use Rattle.kk_rows.specs.Span.{in_span, dimension}
+use Rattle.kk_rows.specs.Span.{dimension}
 use Rattle.kk_rows.proofs.Spans.{in_span-least}
 use Rattle.kk_interp.specs.declared.bi_poly.BiPoly.{BiPoly}
 use Rattle.kk_interp.specs.BiPoly.{IsZeroAt, value_at}

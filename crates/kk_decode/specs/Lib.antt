@@ -1,3 +1,4 @@
 pub mod Solving
 pub mod Offset
+pub mod Basis
 pub mod Laws

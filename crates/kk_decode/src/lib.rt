@@ -1,10 +1,12 @@
 //! The exact decoder of the subspace code of Kötter and Kschischang, and the loss of a space against a codeword.
 //!
 //! A space decodes to the message whose codeword lies within subspace distance l - k of it; there is at most one. It is found
-//! by interpolation and a division of linearised polynomials (R. Kötter and F. R. Kschischang, "Coding for errors and erasures
-//! in random network coding", IEEE Trans. Inf. Theory 54(8), 2008, section V), and tested by its distance.
+//! by a fixed linear map where nothing was lost, and else by interpolation and a division of linearised polynomials
+//! (R. Kötter and F. R. Kschischang, "Coding for errors and erasures in random network coding", IEEE Trans. Inf. Theory 54(8),
+//! 2008, section V), and tested by its distance.
 #![tactic(auto)]
 
+mod basis;
 mod candidate;
 mod decoder;
 mod divide;
@@ -15,6 +17,8 @@ mod near;
 mod part;
 mod scratch;
 mod spaces;
+mod weights;
+mod whole;
 
 pub use decoder::{decode, decode_space};
 pub use loss::{Loss, channel_loss};

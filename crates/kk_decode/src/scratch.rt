@@ -1,33 +1,40 @@
 //! The storage that a receiver keeps from one decoding to the next.
-ghost use Rattle.std.specs.Prelude.{◌≡◌};
+ghost use Rattle.std.specs.Prelude.{◌≡◌, ◌+◌, ◌*◌, ◌≤◌};
 
+use crate::basis::Basis;
 use kk_code::Code;
-use kk_field::{Field, Ring};
+use kk_field::{Field, Ring, Steps};
 use kk_tables::FieldTables;
+use std::sync::ledger::Ledger;
 
-/// The tables of the code's field, made once for many generations: 32 KB.
+/// The tables of the code's field and the fixed map of the code, made once for many generations: 56 KB.
 ///
 /// It serves codes of any parameters one after another, and its content never changes an answer.
 #[derive(Drop)]
 pub struct Scratch {
     pub(crate) tables: FieldTables,
+    pub(crate) basis: Basis,
 }
 
 impl Scratch {
-    /// The tables of the smallest field of a code, GF(4), until a decoding needs others.
+    /// The tables of the smallest field of a code, GF(4), and no map, until a decoding needs others.
     pub fn new() -> Scratch {
         Scratch {
             tables: FieldTables::new(Field::of(Ring::new(2, 3))),
+            basis: Basis::none(),
         }
     }
 
-    /// Makes the tables of the code's field, in place, where they are those of another one.
-    pub(crate) fn renew(&mut self, code: &Code)
-        ensures { self.new.tables ≡ code.now.field }
+    /// Makes the tables of the code's field and the code's map, in place, where they are those of another one.
+    pub(crate) fn renew<L: Ledger>(&mut self, code: &Code, steps: &mut Steps<L>)
+        ensures tables { self.new.tables ≡ code.now.field }
+        ensures cost { steps.new ≤ steps.old + (code.now.k + code.now.k * (4 * code.now.k + 2 * code.now.field.degree + 1)
+            + code.now.l * (code.now.k * (code.now.k + 1))) }
     {
         let (held, wanted) = (self.tables.field().ring(), code.field().ring());
         if held.m() != wanted.m() || held.low() != wanted.low() {
             self.tables.renew(code.field());
         }
+        self.basis.renew(code, &self.tables, steps);
     }
 }

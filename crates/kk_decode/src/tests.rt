@@ -4,10 +4,14 @@ ghost use Rattle.kk_rows.specs.Rows.{numbers};
 ghost use Rattle.kk_code.specs.Codeword.{IsMessage, width};
 ghost use Rattle.kk_code.specs.Decoding.{answer};
 
+use crate::basis::Basis;
+use crate::spaces::spanned;
+use crate::whole::whole;
 use crate::{Loss, Scratch, channel_loss, decode, decode_space};
-use kk_code::{Code, Message, Ticket};
+use kk_code::{Code, CodeRows, Message, Ticket, encode};
 use kk_field::Steps;
 use kk_rows::{Row, RowSpace};
+use kk_tables::FieldTables;
 use std::marker::Brand;
 use std::sync::ledger::{Blank, Ledger};
 use std::test::Fail;
@@ -247,5 +251,102 @@ fn spaces_on_the_radius_take_few_steps(rt: HostRuntime) -> Result<(), Fail> {
     let of_eight = [Row(16), Row(38), Row(71), Row(1)];
     assert!(rt; decodes_at_width::<Brand>(&small, &of_six, 6, &[1], Blank::new(1)));
     assert!(rt; decodes_at_width::<Brand>(&long, &of_eight, 8, &[1, 1], Blank::new(1)));
+    Ok(())
+}
+
+// The codeword of the message with these symbols, where they are one of the code.
+fn encoded<L: Ledger>(code: &Code, symbols: &[u64], blank: Blank) -> Option<CodeRows>
+    requires name { blank.name ≡ L.name }
+    requires parts { blank.parts ≡ L.parts }
+    requires some { 0 < blank.parts }
+{
+    let u = message(code, symbols)?;
+    let mut steps: Steps<L> = Steps::new(blank);
+    Some(encode(code, &u, &mut steps))
+}
+
+// The message that the fixed map gives for the rows.
+fn mapped<L: Ledger>(code: &Code, rows: &[Row], blank: Blank) -> Option<Message>
+    requires name { blank.name ≡ L.name }
+    requires parts { blank.parts ≡ L.parts }
+    requires some { 0 < blank.parts }
+{
+    if !are_rows_of(code, rows) {
+        return None;
+    }
+    let mut steps: Steps<L> = Steps::new(blank);
+    let tables = FieldTables::new(code.field());
+    let mut basis = Basis::none();
+    basis.renew(code, &tables, &mut steps);
+    whole(code, &tables, &basis, &spanned(code, rows))
+}
+
+#[test]
+fn the_fixed_map_gives_back_the_message(rt: HostRuntime) -> Result<(), Fail> {
+    let small = Ticket::read("kk1:00000001:3:0000000000000003:3:1:1")?.code();
+    let middle = Ticket::read("kk1:00000001:8:000000000000001b:8:4:1")?.code();
+    let usual = Ticket::read("kk1:00000001:31:0000000000000009:24:16:1")?.code();
+    let full = Ticket::read("kk1:00000001:32:000000000000008d:31:31:1")?.code();
+    let widest = Ticket::read("kk1:00000001:62:0000000020000001:1:1:1")?.code();
+    let symbols = [
+        7,
+        0,
+        5,
+        3,
+        1,
+        1 << 30,
+        12345,
+        6,
+        99,
+        1000,
+        77,
+        2,
+        4,
+        8,
+        16,
+        31,
+        64,
+        3,
+        1 << 29,
+        9,
+        1,
+        2,
+        3,
+        4,
+        5,
+        6,
+        7,
+        8,
+        9,
+        10,
+        11,
+    ];
+    for (code, symbols) in [
+        (&small, &symbols[..1]),
+        (&middle, &symbols[..4]),
+        (&middle, &symbols[1..5]),
+        (&usual, &symbols[..16]),
+        (&usual, &symbols[15..]),
+        (&full, &symbols[..]),
+        (&widest, &symbols[..1]),
+    ] {
+        let rows = encoded::<Brand>(code, symbols, Blank::new(1)).ok_or("no message of the code")?;
+        let u = mapped::<Brand>(code, rows.as_slice(), Blank::new(1)).ok_or("no message")?;
+        assert_eq!(rt; u.symbols(), symbols);
+    }
+    Ok(())
+}
+
+// Another y-part, two points instead of three, and an x-part that is no evaluation point.
+#[test]
+fn the_fixed_map_gives_nothing_for_other_rows(rt: HostRuntime) -> Result<(), Fail> {
+    let small = Ticket::read("kk1:00000001:3:0000000000000003:3:1:1")?.code();
+    for rows in [
+        [Row(12), Row(17), Row(34)].as_slice(),
+        [Row(13), Row(17)].as_slice(),
+        [Row(13), Row(17), Row(1)].as_slice(),
+    ] {
+        assert!(rt; mapped::<Brand>(&small, rows, Blank::new(1)).is_none());
+    }
     Ok(())
 }

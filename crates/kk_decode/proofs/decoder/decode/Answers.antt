@@ -3,7 +3,7 @@ use Rattle.std.specs.Prelude.{Option, Some, None, IfSome, IfNone}
 use Rattle.kk_rows.specs.Rows.{numbers}
 use Rattle.kk_rows.specs.Span.{in_span}
 use Rattle.kk_code.specs.Codeword.{Parameters}
-use Rattle.kk_code.specs.Decoding.{Decodes, answer}
+use Rattle.kk_code.specs.Decoding.{Decodes}
 use Rattle.kk_decode.proofs.Reach.{Decodes-same_span}
 use Rattle.kk_decode.proofs.Answering.{answer-same_span}
 use Rattle.kk_decode.proofs.decoder.decode.Goals as goal

@@ -1,4 +1,4 @@
-use Rattle.std.proofs.Common.{◌≡◌, ℕ, ◌+◌, ◌<◌, ◌≤◌, List, Some, length, take, sym, ap, ◌∙◌, subst, arith}
+use Rattle.std.proofs.Common.{Some, length, take, sym, ap, ◌∙◌, subst, arith}
 use Rattle.kk_linpoly.specs.LinPoly.{IsOver}
 use Rattle.kk_decode.proofs.Messages.{message_is, padded_is_message, too_long}
 use Rattle.kk_decode.proofs.divide.message_of.Goals as goal

@@ -1,4 +1,4 @@
-use Rattle.std.proofs.Common.{◌≡◌, ℕ, List, Some, sym, ◌∙◌}
+use Rattle.std.proofs.Common.{sym, ◌∙◌}
 use Rattle.kk_decode.proofs.Messages.{no_quotient}
 use Rattle.kk_decode.proofs.divide.quotient.Goals as goal
 

@@ -1,4 +1,4 @@
-use Rattle.std.proofs.Common.{◌≡◌, ℕ, ◌+◌, ◌-◌, ◌≤◌, ◌∙◌, arith}
+use Rattle.std.proofs.Common.{◌≡◌, ◌∙◌, arith}
 use Rattle.kk_rows.specs.Rows.{numbers}
 use Rattle.kk_rows.specs.Span.{dimension}
 use Rattle.kk_rows.specs.Distance.{sum_dimension}

@@ -1,4 +1,4 @@
-use Rattle.std.proofs.Common.{◌≡◌, ℕ, ◌+◌, ◌^◌, ◌<◌, List, take, get_or, sym, ap, ◌∙◌, arith}
+use Rattle.std.proofs.Common.{◌^◌, ◌<◌, take, get_or, sym, ap, ◌∙◌, arith}
 use Rattle.kk_rows.specs.Span.{in_span}
 use Rattle.kk_rows.specs.Rows.{numbers}
 use Rattle.kk_rows.proofs.RowLists.{numbers_each, numbers-take_more}

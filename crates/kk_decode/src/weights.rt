@@ -1,0 +1,236 @@
+//! The weights that take the values of a polynomial to its coefficients.
+ghost use Rattle.std.specs.Prelude.{◌≡◌, ◌+◌, ◌-◌, ◌*◌, ◌^◌, ◌<◌, ◌≤◌, length, All};
+ghost use Rattle.kk_linpoly.specs.LinPoly.{IsOver};
+ghost use Rattle.kk_decode.specs.declared.weights.TheConstants.{MAX_POINTS};
+
+use kk_field::Steps;
+use kk_tables::FieldTables;
+use std::sync::ledger::Ledger;
+
+/// How many points the values can be at.
+pub(crate) const MAX_POINTS: usize = 31;
+
+/// The weights by which the values of a linearised polynomial of at most k coefficients, at 2^0, 2^1, .. 2^(k-1), give its
+/// coefficients: coefficient j is the sum of the values, each times the element of row j at its place. The rest is 0.
+///
+/// The value at 2^i is the sum of c_j·x_j^i, where node x_j is 2^(2^j). So c_j is the sum of the values, each times a
+/// coefficient of the polynomial of degree k - 1 that is 1 at node j and 0 at the other nodes (Lagrange): row j.
+pub(crate) fn weights<L: Ledger>(
+    field: &FieldTables,
+    k: usize,
+    steps: &mut Steps<L>,
+) -> [[u64; 32]; MAX_POINTS]
+    requires { k ≤ MAX_POINTS }
+    ensures below { All (IsOver field.now.degree) result }
+    ensures cost { steps.new ≤ steps.old + (k + k * (4 * k + 2 * field.now.degree + 1)) }
+{
+    let nodes = nodes(field, k, steps);
+    let zeros_at = vanishing(field, &nodes[..k], steps);
+    let mut rows = [[0; 32]; MAX_POINTS];
+    for j in 0..k {
+        rows[j] = row(field, &zeros_at[..k + 1], nodes[j], steps);
+    }
+    rows
+}
+
+/// The nodes 2^(2^j) for j below k, with zeros after them. Over GF(2), where 2 is no element, they are 1.
+fn nodes<L: Ledger>(field: &FieldTables, k: usize, steps: &mut Steps<L>) -> [u64; 32]
+    requires { k ≤ MAX_POINTS }
+    ensures below { IsOver field.now.degree result }
+    ensures cost { steps.new ≤ steps.old + k }
+{
+    let mut nodes = [0; 32];
+    let mut node = if field.m() > 1 { 2 } else { 1 };
+    for j in 0..k {
+        nodes[j] = node;
+        node = field.square(node, steps);
+    }
+    nodes
+}
+
+/// The coefficients, from the constant up, of the monic polynomial whose zeros are the nodes, with zeros after them.
+fn vanishing<L: Ledger>(field: &FieldTables, nodes: &[u64], steps: &mut Steps<L>) -> [u64; 32]
+    requires few { length nodes.now ≤ MAX_POINTS }
+    requires of_field { IsOver field.now.degree nodes.now }
+    ensures below { IsOver field.now.degree result }
+    ensures cost { steps.new ≤ steps.old + length nodes.now * (length nodes.now + 1) }
+{
+    let mut product = [0; 32];
+    product[0] = field.one();
+    for node in nodes {
+        multiply(field, &mut product[..nodes.len() + 1], *node, steps);
+    }
+    product
+}
+
+/// Multiplies the polynomial by Z + x. Its last coefficient has to be 0, and makes room.
+fn multiply<L: Ledger>(field: &FieldTables, coefficients: &mut [u64], x: u64, steps: &mut Steps<L>)
+    requires of_field { IsOver field.now.degree coefficients.old }
+    requires x_below { x < 2 ^ field.now.degree }
+    ensures below { IsOver field.now.degree coefficients.new }
+    ensures len { length coefficients.new ≡ length coefficients.old }
+    ensures cost { steps.new ≤ steps.old + length coefficients.old }
+{
+    let mut lower = 0;
+    for c in coefficients.iter_mut() {
+        let here = *c;
+        *c = field.mul(here, x, steps) ^ lower;
+        lower = here;
+    }
+}
+
+/// The row of node x: the polynomial divided by Z + x, over the value of the quotient at x.
+fn row<L: Ledger>(
+    field: &FieldTables,
+    polynomial: &[u64],
+    x: u64,
+    steps: &mut Steps<L>,
+) -> [u64; 32]
+    requires some { 1 ≤ length polynomial.now }
+    requires few { length polynomial.now ≤ 32 }
+    requires of_field { IsOver field.now.degree polynomial.now }
+    requires x_below { x < 2 ^ field.now.degree }
+    ensures below { IsOver field.now.degree result }
+    ensures cost { steps.new ≤ steps.old + (3 * (length polynomial.now - 1) + 2 * field.now.degree) }
+{
+    let k = polynomial.len() - 1;
+    let mut row = quotient(field, polynomial, x, steps);
+    let at_node = value(field, &row[..k], x, steps);
+    // It is 0 only where a node comes twice.
+    if let Some(inverse) = field.inverse(at_node, steps) {
+        scale(field, &mut row[..k], inverse, steps);
+    }
+    row
+}
+
+/// The quotient of the polynomial by Z + x, with zeros after it.
+fn quotient<L: Ledger>(
+    field: &FieldTables,
+    polynomial: &[u64],
+    x: u64,
+    steps: &mut Steps<L>,
+) -> [u64; 32]
+    requires some { 1 ≤ length polynomial.now }
+    requires few { length polynomial.now ≤ 32 }
+    requires of_field { IsOver field.now.degree polynomial.now }
+    requires x_below { x < 2 ^ field.now.degree }
+    ensures below { IsOver field.now.degree result }
+    ensures cost { steps.new ≤ steps.old + (length polynomial.now - 1) }
+{
+    let mut quotient = [0; 32];
+    let mut higher = 0;
+    for i in (0..polynomial.len() - 1).rev() {
+        higher = field.mul(higher, x, steps) ^ polynomial[i + 1];
+        quotient[i] = higher;
+    }
+    quotient
+}
+
+/// The value of the polynomial at x (Horner).
+fn value<L: Ledger>(field: &FieldTables, polynomial: &[u64], x: u64, steps: &mut Steps<L>) -> u64
+    requires of_field { IsOver field.now.degree polynomial.now }
+    requires x_below { x < 2 ^ field.now.degree }
+    ensures below { result < 2 ^ field.now.degree }
+    ensures cost { steps.new ≤ steps.old + length polynomial.now }
+{
+    let mut value = 0;
+    for i in (0..polynomial.len()).rev() {
+        value = field.mul(value, x, steps) ^ polynomial[i];
+    }
+    value
+}
+
+/// Multiplies each coefficient by `a`.
+fn scale<L: Ledger>(field: &FieldTables, coefficients: &mut [u64], a: u64, steps: &mut Steps<L>)
+    requires of_field { IsOver field.now.degree coefficients.old }
+    requires a_below { a < 2 ^ field.now.degree }
+    ensures below { IsOver field.now.degree coefficients.new }
+    ensures len { length coefficients.new ≡ length coefficients.old }
+    ensures cost { steps.new ≤ steps.old + length coefficients.old }
+{
+    for c in coefficients.iter_mut() {
+        *c = field.mul(*c, a, steps);
+    }
+}
+
+#[cfg(test)]
+mod tests {
+    use super::*;
+    use kk_code::{Code, Ticket};
+    use std::marker::Brand;
+    use std::sync::ledger::Blank;
+    use std::test::Fail;
+
+    /// The sum of the values of X^(2^t) at 2^0, 2^1, .., each times the weight at its place.
+    fn coefficient<L: Ledger>(
+        field: &FieldTables,
+        weights: &[u64],
+        t: u32,
+        steps: &mut Steps<L>,
+    ) -> u64
+        requires of_field { IsOver field.now.degree weights.now }
+        requires few { length weights.now ≤ MAX_POINTS }
+        requires points { length weights.now ≤ field.now.degree }
+        requires at_most_128 { t ≤ 128 }
+    {
+        let mut sum = 0;
+        for (i, weight) in weights.iter().enumerate() {
+            let value = field.pow2(1 << i, t, steps);
+            sum ^= field.mul(*weight, value, steps);
+        }
+        sum
+    }
+
+    /// Whether the weights give coefficient j of X, X^2, X^4, .., which is 1 where that is X^(2^j), and else 0.
+    fn give_coefficient<L: Ledger>(
+        field: &FieldTables,
+        weights: &[u64],
+        j: u32,
+        steps: &mut Steps<L>,
+    ) -> bool
+        requires of_field { IsOver field.now.degree weights.now }
+        requires few { length weights.now ≤ MAX_POINTS }
+        requires points { length weights.now ≤ field.now.degree }
+    {
+        for t in 0..weights.len() as u32 {
+            if coefficient(field, weights, t, steps) != u64::from(t == j) {
+                return false;
+            }
+        }
+        true
+    }
+
+    /// Whether the weights of k values are the inverse of the matrix of the values of X^(2^t), t < k.
+    fn are_inverse<L: Ledger>(code: &Code, blank: Blank) -> bool
+        requires name { blank.name ≡ L.name }
+        requires parts { blank.parts ≡ L.parts }
+        requires some { 0 < blank.parts }
+    {
+        let k = code.k();
+        let field = FieldTables::new(code.field());
+        let mut steps: Steps<L> = Steps::new(blank);
+        let rows = weights(&field, k as usize, &mut steps);
+        for j in 0..k {
+            if !give_coefficient(&field, &rows[j as usize][..k as usize], j, &mut steps) {
+                return false;
+            }
+        }
+        true
+    }
+
+    #[test]
+    fn weights_invert_the_matrix_of_powers(rt: HostRuntime) -> Result<(), Fail> {
+        for ticket in [
+            "kk1:00000001:2:0000000000000003:1:1:1",
+            "kk1:00000001:3:0000000000000003:3:3:1",
+            "kk1:00000001:8:000000000000001b:8:8:1",
+            "kk1:00000001:31:0000000000000009:31:16:1",
+            "kk1:00000001:31:0000000000000009:31:31:1",
+            "kk1:00000001:62:0000000020000001:1:1:1",
+        ] {
+            let code = Ticket::read(ticket)?.code();
+            assert!(rt; are_inverse::<Brand>(&code, Blank::new(1)));
+        }
+        Ok(())
+    }
+}
