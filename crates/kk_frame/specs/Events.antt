@@ -129,3 +129,12 @@ abbrev pub counts : ℕ → TicketFields → Limits → List Event → GateCount
 counts size t limits events =
     let prefix = stop size t limits events in
     counts_over size t (Some (unwrap_or (end_with size t limits prefix) ended.Over)) prefix
+
+-- how many calls of a gate that ended so answered that its events are over: one, the last, where it ended by that
+abbrev pub overs_to : Option Ended → ℕ
+overs_to None = 0
+overs_to (Some ended.End) = 0
+overs_to (Some ended.Most) = 0
+overs_to (Some ended.Idle) = 0
+overs_to (Some ended.Fault) = 0
+overs_to (Some ended.Over) = 1

@@ -5,7 +5,7 @@ ghost use Rattle.kk_outside.specs.declared.event.Event.{Event};
 ghost use Rattle.kk_outside.specs.declared.event.Event.TheVariants.{Datagram, Quiet, Fault};
 ghost use Rattle.kk_frame.specs.Frame.{IsFrame, Vector};
 ghost use Rattle.kk_frame.specs.Datagram.{readings, data_frames};
-ghost use Rattle.kk_frame.specs.Events.{taken, counts};
+ghost use Rattle.kk_frame.specs.Events.{taken, counts, overs_to};
 ghost use Rattle.kk_frame.specs.Intake.{IsIntake, IsAfter, is_running, calls_left};
 
 use crate::received::Received;
@@ -92,6 +92,7 @@ impl Intake {
         ensures after { (events : List Event) → IsAfter ticket.now events self.old → IsAfter ticket.now (events ++ Datagram bytes.now ∷ []) self.new }
         ensures taken { (events : List Event) → IsAfter ticket.now events self.old → taken FRAME_BYTES ticket.now self.old.limits (events ++ Datagram bytes.now ∷ []) ≡ taken FRAME_BYTES ticket.now self.old.limits events ++ result }
         ensures ended { self.new.counts.ended ≢ Some Ended.Fault }
+        ensures not_over { overs_to self.new.counts.ended ≡ 0 }
         ensures limits { self.new.limits ≡ self.old.limits }
         ensures sooner { calls_left self.new < calls_left self.old }
     {
@@ -111,6 +112,7 @@ impl Intake {
         ensures after { (t : TicketFields) (events : List Event) → IsAfter t events self.old → IsAfter t (events ++ Quiet ∷ []) self.new }
         ensures taken { (t : TicketFields) (events : List Event) → IsAfter t events self.old → taken FRAME_BYTES t self.old.limits (events ++ Quiet ∷ []) ≡ taken FRAME_BYTES t self.old.limits events }
         ensures ended { self.new.counts.ended ≢ Some Ended.Fault }
+        ensures not_over { overs_to self.new.counts.ended ≡ 0 }
         ensures limits { self.new.limits ≡ self.old.limits }
         ensures sooner { calls_left self.new < calls_left self.old }
     {

@@ -1,18 +1,18 @@
 -- What a source and a sink tell over one call after another.
-use Rattle.std.proofs.Common.{◌≡◌, ◌≢◌, ℕ, Bool, true, false, cond, eqb, ◌+◌, ◌-◌, ◌<◌, ◌≤◌, min, inl, inr, List, [], ◌∷◌, ◌++◌, length, take, drop, Option, Some, None, Result, Ok, Err, refl, ap, sym, subst, ◌∙◌, arith, append_assoc, length-append, length-take, length-drop, take-append-drop}
-use Rattle.std.proofs.lemmas.List.{append-nil, take_rest, take-append-le, take_at, drop_at, take_all, drop_all}
+use Rattle.std.proofs.Common.{◌≡◌, ◌≢◌, ℕ, Bool, true, false, cond, eqb, ◌+◌, ◌-◌, ◌<◌, ◌≤◌, min, map, inl, inr, List, [], ◌∷◌, ◌++◌, length, take, drop, Option, Some, None, Result, Ok, Err, refl, ap, sym, subst, ◌∙◌, arith, append_assoc, length-append, length-take, length-drop, take-append-drop}
+use Rattle.std.proofs.lemmas.List.{append-nil, map-append, take_rest, take-append-le, take_at, drop_at, take_all, drop_all}
 use Rattle.std.specs.Prelude.{IfSome}
 use Rattle.std.proofs.lemmas.Bool.{cases_lt}
 use Rattle.std.proofs.lemmas.List.Elements.{All-nil, All-cons, All-append}
 use Rattle.std.proofs.lemmas.Bool.Decides.{nat_tests}
 use Rattle.std.proofs.lemmas.Option.{same_Some}
 use Rattle.std.proofs.Math.Seq.{take-add, take-append-add}
-use Rattle.std.specs.Io.KnownBytes.{prepend_known, append_known, IsAtEnd}
+use Rattle.std.specs.Io.KnownBytes.{prepend_known, IsAtEnd}
 use borrow.Rule.Slice.PartMut.{put_mid}
 use Rattle.kk_outside.specs.Change.{Change, change}
 use Rattle.kk_outside.specs.Causes.{HasCause}
 use Rattle.kk_outside.specs.Source.{SourceTold, Read, Gave, AtEnd, Failed, read_of, bytes_given, bytes_read, GaveSome, Took, left_after, ReadsFrom, FillsFrom}
-use Rattle.kk_outside.specs.Sink.{SinkTold, WritesAllTo, WasGiven}
+use Rattle.kk_outside.specs.Sink.{SinkTold, Written, Byte, Nothing, Failed as write_Failed, append_bytes, append_failing, bytes_written, write_of, WritesAllTo, WasGiven}
 
 -- what was given by one read and then by a second
 pub prepend_known-prepend_known : (a b : List ℕ) (o : Option (List ℕ)) → prepend_known a (prepend_known b o) ≡ prepend_known (a ++ b) o
@@ -24,22 +24,48 @@ prepend_known-nil None = refl
 prepend_known-nil (Some xs) = refl
 
 -- what was taken by one write and then by a second
-pub append_known-append_known : (o : Option (List ℕ)) (a b : List ℕ) → append_known (append_known o a) b ≡ append_known o (a ++ b)
-append_known-append_known None a b = refl
-append_known-append_known (Some xs) a b = ap Some (append_assoc xs a b)
+pub append_bytes-append : (w : List Written) (a b : List ℕ) → append_bytes (append_bytes w a) b ≡ append_bytes w (a ++ b)
+append_bytes-append w a b = append_assoc w (map Byte a) (map Byte b) ∙ ap (λ (l : List Written). w ++ l) (sym (map-append Byte a b))
 
-pub append_known-nil : (o : Option (List ℕ)) → append_known o [] ≡ o
-append_known-nil None = refl
-append_known-nil (Some xs) = ap Some (append-nil xs)
+pub append_bytes-nil : (w : List Written) → append_bytes w [] ≡ w
+append_bytes-nil w = append-nil w
+
+-- and by a second that failed
+pub append_failing-append : (w : List Written) (a b : List ℕ) → append_failing (append_bytes w a) b ≡ append_failing w (a ++ b)
+append_failing-append w a b = ap (λ (l : List Written). l ++ write_Failed ∷ []) (append_bytes-append w a b)
+
+-- a write that took some bytes
+pub write_of-some : (E : Type 0) (n : ℕ) (piece : List ℕ) → 0 < n → write_of {E = E} (Ok n) piece ≡ map Byte (take n piece)
+write_of-some E n piece some = let no : eqb n 0 ≡ false = grind (arith, nat_tests) in rw no refl
 
 -- after d bytes of a text a write takes n more of it
-pub written_more : (start now after : Option (List ℕ)) (text : List ℕ) (d n : ℕ) → now ≡ append_known start (take d text) → after ≡ append_known now (take n (take (length text - d) (drop d text))) → after ≡ append_known start (take (d + n) text)
-written_more start now after text d n so_far step =
+pub written_more : (E : Type 0) (start now after : List Written) (text : List ℕ) (d n : ℕ) → now ≡ append_bytes start (take d text) → after ≡ now ++ write_of {E = E} (Ok n) (take (length text - d) (drop d text)) → 0 < n → after ≡ append_bytes start (take (d + n) text)
+written_more E start now after text d n so_far step some =
     step
-    ∙ ap (λ (rest : List ℕ). append_known now (take n rest)) (take_rest text d)
-    ∙ ap (λ (o : Option (List ℕ)). append_known o (take n (drop d text))) so_far
-    ∙ append_known-append_known start (take d text) (take n (drop d text))
-    ∙ ap (λ (l : List ℕ). append_known start l) (sym (take-add d n text))
+    ∙ ap (λ (l : List Written). now ++ l) (write_of-some E n (take (length text - d) (drop d text)) some)
+    ∙ ap (λ (rest : List ℕ). append_bytes now (take n rest)) (take_rest text d)
+    ∙ ap (λ (w : List Written). append_bytes w (take n (drop d text))) so_far
+    ∙ append_bytes-append start (take d text) (take n (drop d text))
+    ∙ ap (λ (l : List ℕ). append_bytes start l) (sym (take-add d n text))
+
+-- the bytes that were taken
+pub bytes_written-append : (a b : List Written) → bytes_written (a ++ b) ≡ bytes_written a ++ bytes_written b
+bytes_written-append [] b = refl
+bytes_written-append (Byte byte ∷ a) b = ap (λ (l : List ℕ). byte ∷ l) (bytes_written-append a b)
+bytes_written-append (Nothing ∷ a) b = bytes_written-append a b
+bytes_written-append (write_Failed ∷ a) b = bytes_written-append a b
+
+bytes_written-bytes : (bytes : List ℕ) → bytes_written (map Byte bytes) ≡ bytes
+bytes_written-bytes [] = refl
+bytes_written-bytes (byte ∷ bytes) = ap (λ (l : List ℕ). byte ∷ l) (bytes_written-bytes bytes)
+
+pub bytes_written-write : (E : Type 0) (n : ℕ) (piece : List ℕ) → bytes_written (write_of {E = E} (Ok n) piece) ≡ take n piece
+bytes_written-write E n piece = elim (cases_lt 0 n) [
+  | inl some ↦ ap bytes_written (write_of-some E n piece some) ∙ bytes_written-bytes (take n piece)
+  | inr none ↦
+      let zero : n ≡ 0 = omega (arith, none) in
+      subst (λ (m : ℕ). bytes_written (write_of {E = E} (Ok m) piece) ≡ take m piece) (sym zero) refl
+]
 
 -- the front of a buffer behind whose first d bytes a read put others
 pub take-put_mid_more : (d k n : ℕ) (buf part : List ℕ) → d ≤ length buf → n ≤ length part → take (d + n) (put_mid d k buf part) ≡ take d buf ++ take n part
@@ -276,15 +302,18 @@ ReadsFrom-copied source left copied_front buf n was is logged copied in_left in_
 
 -- ---- sinks
 
+pub bytes_written-failed : (w : List Written) → bytes_written (w ++ write_Failed ∷ []) ≡ bytes_written w
+bytes_written-failed w = bytes_written-append w (write_Failed ∷ []) ∙ append-nil (bytes_written w)
+
 -- what a sink holds that was given a text
 pub WasGiven-written : {T E : Type 0} (text : List ℕ) (sink : Change SinkTold) (r : Result T E) → WritesAllTo sink r text → HasCause sink.old.faults sink.new.faults r → WasGiven text sink
 WasGiven-written text sink (Ok x) writes cause = record {
-  prefix = (length text, omega arith, writes.all ∙ ap (append_known sink.old.written) (sym (take_all (length text) text (omega arith))));
+  either = inl writes.all;
   short = λ failed. absurd (omega (arith, failed, cause.kept));
   all = λ can no. writes.all;
 }
 WasGiven-written text sink (Err e) writes cause = record {
-  prefix = (writes.part.0, omega (arith, writes.part.1), writes.part.2);
+  either = inr writes.part;
   short = λ failed. writes.part;
   all = λ can no. absurd (no (omega (arith, can, cause.failed)));
 }

@@ -1,11 +1,11 @@
 -- What a gate tells, and what an outlet tells, over one call after another.
-use Rattle.std.proofs.Common.{◌≡◌, ℕ, List, [], ◌++◌, length, drop, Option, Some, None, Result, refl, ap, sym, ◌∙◌, append_assoc}
-use Rattle.std.proofs.lemmas.List.{append-nil, drop_at}
+use Rattle.std.proofs.Common.{◌≡◌, ℕ, List, [], ◌∷◌, ◌++◌, length, drop, map, Option, Some, None, Result, refl, ap, sym, ◌∙◌, append_assoc}
+use Rattle.std.proofs.lemmas.List.{append-nil, drop_at, map-append}
 use Rattle.kk_outside.specs.Change.{Change, change}
 use Rattle.kk_outside.specs.declared.event.Event.{Event}
 use Rattle.kk_outside.specs.declared.got.Got.{Got}
 use Rattle.kk_outside.specs.Gate.{GateTold, prepend_events, events_of, events_told, TellsFrom, TookEvents}
-use Rattle.kk_outside.specs.Outlet.{append_datagrams}
+use Rattle.kk_outside.specs.Outlet.{Send, Sent, Failed, append_datagrams, append_failing, datagrams_sent}
 
 prepend_events-prepend_events : (a b : List Event) (o : Option (List Event)) → prepend_events a (prepend_events b o) ≡ prepend_events (a ++ b) o
 prepend_events-prepend_events a b None = refl
@@ -38,10 +38,23 @@ events_told-took events gate took =
     ap (λ (l : List Event). drop (length gate.old.events) l) took.logged ∙ drop_at gate.old.events events (length gate.old.events) refl
 
 -- datagrams that were sent, and then others
-pub append_datagrams-append : (o : Option (List (List ℕ))) (a b : List (List ℕ)) → append_datagrams (append_datagrams o a) b ≡ append_datagrams o (a ++ b)
-append_datagrams-append None a b = refl
-append_datagrams-append (Some xs) a b = ap Some (append_assoc xs a b)
+pub append_datagrams-append : (o : List Send) (a b : List (List ℕ)) → append_datagrams (append_datagrams o a) b ≡ append_datagrams o (a ++ b)
+append_datagrams-append o a b = append_assoc o (map Sent a) (map Sent b) ∙ ap (λ (l : List Send). o ++ l) (sym (map-append Sent a b))
 
-pub append_datagrams-nil : (o : Option (List (List ℕ))) → append_datagrams o [] ≡ o
-append_datagrams-nil None = refl
-append_datagrams-nil (Some xs) = ap Some (append-nil xs)
+pub append_datagrams-nil : (o : List Send) → append_datagrams o [] ≡ o
+append_datagrams-nil o = append-nil o
+
+-- and then one that failed
+pub append_failing-append : (o : List Send) (a b : List (List ℕ)) → append_failing (append_datagrams o a) b ≡ append_failing o (a ++ b)
+append_failing-append o a b = ap (λ (l : List Send). l ++ Failed ∷ []) (append_datagrams-append o a b)
+
+pub append_failing-nil : (o : List Send) → append_failing o [] ≡ o ++ Failed ∷ []
+append_failing-nil o = ap (λ (l : List Send). l ++ Failed ∷ []) (append_datagrams-nil o)
+
+pub datagrams_sent-append : (a b : List Send) → datagrams_sent (a ++ b) ≡ datagrams_sent a ++ datagrams_sent b
+datagrams_sent-append [] b = refl
+datagrams_sent-append (Sent datagram ∷ a) b = ap (λ (l : List (List ℕ)). datagram ∷ l) (datagrams_sent-append a b)
+datagrams_sent-append (Failed ∷ a) b = datagrams_sent-append a b
+
+pub datagrams_sent-failed : (a : List Send) → datagrams_sent (a ++ Failed ∷ []) ≡ datagrams_sent a
+datagrams_sent-failed a = datagrams_sent-append a (Failed ∷ []) ∙ append-nil (datagrams_sent a)

@@ -1,12 +1,14 @@
--- The events that a log keeps.
-use Rattle.std.specs.Prelude.{List, [], ◌∷◌, ◌++◌}
+-- The answers that a log keeps.
+use Rattle.std.specs.Prelude.{ℕ, ◌+◌, List, [], ◌∷◌, ◌++◌, length}
 use Rattle.kk_outside.specs.declared.event.Event.{Event}
 use Rattle.kk_outside.specs.declared.event.Event.TheVariants as event
 use Rattle.kk_outside.specs.declared.event_log.LastEvent.{LastEvent}
-use Rattle.kk_outside.specs.declared.event_log.LastEvent.TheVariants.{NoEvent, Datagram, Quiet, Fault}
+use Rattle.kk_outside.specs.declared.event_log.LastEvent.TheVariants.{NoEvent, Datagram, Quiet, Fault, Over}
+use Rattle.kk_outside.specs.EventsTold.{EventsTold}
 
-abbrev pub events_logged : LastEvent → List Event
-events_logged NoEvent = []
-events_logged (Datagram bytes before) = before.value ++ event.Datagram bytes.value ∷ []
-events_logged (Quiet before) = before.value ++ event.Quiet ∷ []
-events_logged (Fault before) = before.value ++ event.Fault ∷ []
+abbrev pub events_logged : LastEvent → EventsTold
+events_logged NoEvent = record { events = []; overs = 0 }
+events_logged (Datagram bytes before) = record before.value { events = before.value.events ++ event.Datagram bytes.value ∷ [] }
+events_logged (Quiet before) = record before.value { events = before.value.events ++ event.Quiet ∷ [] }
+events_logged (Fault before) = record before.value { events = before.value.events ++ event.Fault ∷ [] }
+events_logged (Over before) = record before.value { overs = before.value.overs + 1 }

@@ -1,5 +1,5 @@
 -- What a gate tells, and what one of its calls does to that.
-use Rattle.std.specs.Prelude.{◌≡◌, ℕ, ◌<◌, ◌≤◌, List, [], ◌∷◌, ◌++◌, length, take, drop, Option, Some, None, Result, Ok, Err, IfOk}
+use Rattle.std.specs.Prelude.{◌≡◌, ℕ, ◌+◌, ◌<◌, ◌≤◌, List, [], ◌∷◌, ◌++◌, length, take, drop, Option, Some, None, Result, Ok, Err, IfOk}
 use Rattle.std.specs.Option.{option_map}
 use Rattle.kk_outside.specs.Change.{Change}
 use Rattle.kk_outside.specs.declared.event.Event.{Event}
@@ -8,10 +8,12 @@ use Rattle.kk_outside.specs.declared.got.Got.{Got}
 use Rattle.kk_outside.specs.declared.got.Got.TheVariants as got
 use Rattle.kk_outside.specs.declared.gate.TheConstants.{GATE_BYTES}
 
--- the events that are left, where the gate tells them, the events that its calls have told so far, and how often it failed
+-- the events that are left, where the gate tells them, the events that its calls have told so far, how many calls it has
+-- answered by `Over`, and how often it failed
 pub record GateTold : Type 0 where
   pub left : Option (List Event)
   pub events : List Event
+  pub overs : ℕ
   pub faults : ℕ
 
 -- its count of faults rose
@@ -37,6 +39,13 @@ abbrev pub events_of : {E : Type 0} → Result Got E → List ℕ → List Event
 events_of (Ok answer) buf = events_of_got answer buf
 events_of (Err e) buf = Fault ∷ []
 
+-- how many of one answer are `Over`
+abbrev pub overs_of : {E : Type 0} → Result Got E → ℕ
+overs_of (Ok (got.Datagram n)) = 0
+overs_of (Ok got.Quiet) = 0
+overs_of (Ok got.Over) = 1
+overs_of (Err e) = 0
+
 -- a datagram that is told lies within the buffer
 abbrev pub IsWithin : Got → List ℕ → Type 0
 IsWithin (got.Datagram n) buf = n ≤ length buf
@@ -49,6 +58,7 @@ pub record TellsFrom {E : Type 0} (gate : Change GateTold) (result : Result Got 
   pub first : gate.old.left ≡ prepend_events (events_of result buf) gate.new.left
   pub over : events_of result buf ≡ [] → IsOver gate.new.left
   pub logged : gate.new.events ≡ gate.old.events ++ events_of result buf
+  pub counted : gate.new.overs ≡ gate.old.overs + overs_of result
 
 -- the events that the calls of a call told
 abbrev pub events_told : Change GateTold → List Event

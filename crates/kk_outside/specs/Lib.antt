@@ -3,14 +3,17 @@ pub mod Change
 pub mod Source
 pub mod Sink
 pub mod ReadLog
+pub mod WriteLog
 pub mod SourceState
 pub mod SinkState
 pub mod StdState
 pub mod Gate
+pub mod EventsTold
 pub mod EventLog
 pub mod GateState
 pub mod Outlet
 pub mod OutletState
+pub mod SendLog
 pub mod Packed
 pub mod UdpState
 pub mod Generator

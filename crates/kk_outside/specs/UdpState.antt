@@ -4,24 +4,25 @@ use Rattle.std.specs.declared.io.ErrorKind.{ErrorKind}
 use Rattle.std.specs.declared.io.ErrorKind.TheVariants.{WouldBlock, TimedOut, Interrupted, OutOfMemory}
 use Rattle.kk_outside.specs.declared.event.Event.{Event}
 use Rattle.kk_outside.specs.Gate.{GateTold}
-use Rattle.kk_outside.specs.Outlet.{OutletTold}
+use Rattle.kk_outside.specs.Outlet.{OutletTold, Send}
 
 -- the events that the gate told so far, and how often it failed
 pub record UdpGateState : Type 0 where
   pub events : List Event
   pub faults : ℕ
 
--- whether the outlet has a socket, and how often it failed
+-- whether the outlet has a socket, its sends so far, and how often it failed
 pub record UdpOutletState : Type 0 where
   pub has_socket : Bool
+  pub sends : List Send
   pub faults : ℕ
 
 -- what they tell as a gate and an outlet
 abbrev pub gate_told : UdpGateState → GateTold
-gate_told s = record { left = None; events = s.events; faults = s.faults }
+gate_told s = record { left = None; events = s.events; overs = 0; faults = s.faults }
 
 abbrev pub outlet_told : UdpOutletState → OutletTold
-outlet_told s = record { sent = None; faults = s.faults }
+outlet_told s = record { sends = s.sends; faults = s.faults }
 
 -- a receive brought no datagram: none came in time, or a signal ended the wait
 abbrev pub is_wait_end : ErrorKind → Bool

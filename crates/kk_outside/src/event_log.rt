@@ -1,14 +1,14 @@
 //! What the calls of a gate told, for contracts alone.
-ghost use Rattle.std.specs.Prelude.{◌≡◌, ◌++◌, [], IfOk};
-ghost use Rattle.kk_outside.specs.Gate.{events_of, IsWithin};
+ghost use Rattle.std.specs.Prelude.{◌≡◌, ◌+◌, ◌++◌, [], IfOk};
+ghost use Rattle.kk_outside.specs.Gate.{events_of, overs_of, IsWithin};
 
 use crate::read_log::ByteLog;
 use crate::{Failed, Got};
 use std::marker::Model;
 use std::snapshot::Snapshot;
 
-/// The events that a gate has told so far, in order. Clauses see the whole list; at run time there is one byte, since
-/// what came before the last event is kept as a snapshot, which has none.
+/// The events that a gate has told so far, in order, and how often it has answered that they are over. Clauses see all of
+/// that; at run time there is one byte, since what came before the last answer is kept as a snapshot, which has none.
 #[cycle(event_log)]
 #[derive(Drop)]
 pub(crate) struct EventLog {
@@ -22,19 +22,19 @@ enum LastEvent {
     Datagram(Snapshot<ByteLog>, Snapshot<EventLog>),
     Quiet(Snapshot<EventLog>),
     Fault(Snapshot<EventLog>),
+    Over(Snapshot<EventLog>),
 }
 
 impl Model for EventLog {
-    ghost use Rattle.std.specs.Prelude.{List, length};
-    ghost use Rattle.kk_outside.specs.declared.event.Event.{Event};
+    ghost use Rattle.kk_outside.specs.EventsTold.{EventsTold, calls_told};
 
-    ghost Value = { List Event };
+    ghost Value = { EventsTold };
 
     ghost use Rattle.kk_outside.specs.EventLog.{events_logged};
 
     ghost view = { λ log. events_logged log.last };
 
-    ghost size = { length };
+    ghost size = { calls_told };
 
     ghost use Rattle.std.proofs.Common.{arith, length-append};
 
@@ -42,19 +42,20 @@ impl Model for EventLog {
 }
 
 impl EventLog {
-    /// No event so far.
+    /// No answer so far.
     pub(crate) fn new() -> EventLog
-        ensures { result ≡ [] }
+        ensures { result ≡ record { events = []; overs = 0 } }
     {
         EventLog {
             last: LastEvent::NoEvent,
         }
     }
 
-    /// The event more that this answer tells by this buffer, if it tells one.
+    /// One answer more, with this buffer.
     pub(crate) fn add(&mut self, answer: Result<Got, Failed>, buf: &[u8])
         requires { IfOk answer (λ got. IsWithin got buf.now) }
-        ensures { self.new ≡ self.old ++ events_of answer buf.now }
+        ensures events { self.new.events ≡ self.old.events ++ events_of answer buf.now }
+        ensures overs { self.new.overs ≡ self.old.overs + overs_of answer }
     {
         let before = Snapshot::of(self);
         self.last = match answer {
@@ -62,7 +63,7 @@ impl EventLog {
                 LastEvent::Datagram(Snapshot::of(&ByteLog::of(&buf[..n])), before)
             }
             Ok(Got::Quiet) => LastEvent::Quiet(before),
-            Ok(Got::Over) => return,
+            Ok(Got::Over) => LastEvent::Over(before),
             Err(_) => LastEvent::Fault(before),
         };
     }

@@ -15,8 +15,8 @@ pub const GATE_BYTES: usize = 641;
 
 /// Where datagrams come in. It can be moved into a worker, and dropped with it.
 pub trait Gate: Drop {
-    /// The events that are left, or `None` where it doesn't tell them; the events that its calls have told so far; and
-    /// how often it failed, a count that stops at 2^64 - 1.
+    /// The events that are left, or `None` where it doesn't tell them; the events that its calls have told so far; how
+    /// many calls it has answered by `Over`; and how often it failed, a count that stops at 2^64 - 1.
     ghost told: { Self → GateTold };
 
     /// Takes the first event that is left and tells it: a datagram by the first bytes of `buf`, a quiet, or a fault by

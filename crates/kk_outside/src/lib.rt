@@ -16,6 +16,7 @@ mod outlet;
 mod pace;
 mod plan;
 mod read_log;
+mod send_log;
 mod sink;
 mod source;
 mod std_sink;
@@ -24,6 +25,7 @@ mod std_source;
 mod tests;
 mod udp_gate;
 mod udp_outlet;
+mod write_log;
 
 pub use bytes::Bytes;
 pub use event::Event;

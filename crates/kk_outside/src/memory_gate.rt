@@ -25,7 +25,7 @@ impl Model for MemoryGate {
 
     ghost Value = { GateState };
 
-    ghost view = { λ g. record { left = drop g.start g.events.items; events = g.log; faults = g.faults } };
+    ghost view = { λ g. record { left = drop g.start g.events.items; events = g.log.events; overs = g.log.overs; faults = g.faults } };
 
     ghost invariant = { λ g. (g.start ≤ length g.events.items) × All FitsGate g.events.items };
 }

@@ -2,11 +2,12 @@
 ghost use Rattle.std.specs.Prelude.{◌≡◌, ◌↔◌, ◌<◌, ◌≤◌, Some, length, slice_get, IsErr, IfOk, OnOk, OnErr};
 ghost use Rattle.kk_outside.specs.Causes.{HasCause};
 ghost use Rattle.kk_outside.specs.Change.{change};
-ghost use Rattle.kk_outside.specs.Outlet.{SendsTo};
+ghost use Rattle.kk_outside.specs.Outlet.{SendsTo, datagrams_sent};
 ghost use Rattle.kk_outside.specs.Packed.{start_of};
 ghost use Rattle.kk_outside.specs.OutletState.{told, unsent, IsRefused, after_send, after_failed_send};
 
 use crate::plan::Plan;
+use crate::send_log::SendLog;
 use crate::{Alloc, Failed, Outlet};
 use std::alloc::Global;
 use std::marker::Model;
@@ -22,17 +23,19 @@ pub struct MemoryOutlet {
     ends: Vec<usize>,
     room: usize,
     plan: Plan,
+    log: SendLog,
 }
 
 impl Model for MemoryOutlet {
-    ghost use Rattle.std.specs.Prelude.{◌≤◌, length, vec_capacity};
+    ghost use Rattle.std.specs.Prelude.{◌≡◌, ◌≤◌, length, vec_capacity};
+    ghost use Rattle.kk_outside.specs.Outlet.{datagrams_sent};
     ghost use Rattle.kk_outside.specs.OutletState.{OutletState};
     ghost use Rattle.kk_outside.specs.Packed.{pieces, AreEnds};
 
     ghost Value = { OutletState };
 
     ghost view = { λ o. record {
-      sent = pieces 0 o.ends.items o.bytes.items;
+      sends = o.log;
       room = o.room;
       fails = o.plan.fails.items;
       calls = o.plan.calls;
@@ -41,6 +44,7 @@ impl Model for MemoryOutlet {
 
     ghost invariant = { λ o.
         AreEnds 0 o.ends.items (length o.bytes.items)
+        × (pieces 0 o.ends.items o.bytes.items ≡ datagrams_sent o.log)
         × (length o.bytes.items ≤ o.room)
         × (o.room ≤ vec_capacity o.bytes)
         × (o.room ≤ vec_capacity o.ends) };
@@ -56,6 +60,7 @@ impl MemoryOutlet {
             ends: Vec::with_capacity(alloc, room)?,
             room,
             plan: Plan::new(fails),
+            log: SendLog::new(),
         })
     }
 
@@ -68,15 +73,15 @@ impl MemoryOutlet {
 
     /// How many datagrams were sent.
     pub fn sent(&self) -> usize
-        ensures { result ≡ length self.now.sent }
+        ensures { result ≡ length (datagrams_sent self.now.sends) }
     {
         self.ends.len()
     }
 
     /// The datagram that was sent after `i` others.
     pub fn datagram(&self, i: usize) -> &[u8]
-        requires { i < length self.now.sent }
-        ensures { slice_get self.now.sent i ≡ Some result.now }
+        requires { i < length (datagrams_sent self.now.sends) }
+        ensures { slice_get (datagrams_sent self.now.sends) i ≡ Some result.now }
     {
         &self.bytes[start_of(&self.ends, i)..self.ends[i]]
     }
@@ -95,12 +100,17 @@ impl Outlet for MemoryOutlet {
         ensures sends { SendsTo (change (told self.old) (told self.new)) result datagram.now }
         ensures cause { HasCause self.old.faults self.new.faults result }
     {
-        self.plan.call()?;
+        if self.plan.call().is_err() {
+            self.log.add(Err(Failed), datagram);
+            return Err(Failed);
+        }
         if datagram.len() > self.room - self.bytes.len() {
+            self.log.add(Err(Failed), datagram);
             return Err(self.plan.fault());
         }
         self.bytes.extend_from_slice(datagram).unwrap();
         self.ends.push(self.bytes.len()).unwrap();
+        self.log.add(Ok(()), datagram);
         Ok(())
     }
 }

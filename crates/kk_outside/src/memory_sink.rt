@@ -2,10 +2,11 @@
 ghost use Rattle.std.specs.Prelude.{◌≡◌, ◌↔◌, ◌≤◌, length, IsErr, IfOk, OnErr};
 ghost use Rattle.kk_outside.specs.Causes.{HasCause};
 ghost use Rattle.kk_outside.specs.Change.{change};
-ghost use Rattle.kk_outside.specs.Sink.{WritesTo};
+ghost use Rattle.kk_outside.specs.Sink.{WritesTo, bytes_written};
 ghost use Rattle.kk_outside.specs.SinkState.{told, unwritten, IsRefused, taken_count, after_write, after_failed_write};
 
 use crate::plan::Plan;
+use crate::write_log::WriteLog;
 use crate::{Alloc, Failed, Sink};
 use std::alloc::Global;
 use std::marker::Model;
@@ -19,16 +20,18 @@ pub struct MemorySink {
     room: usize,
     piece: usize,
     plan: Plan,
+    log: WriteLog,
 }
 
 impl Model for MemorySink {
-    ghost use Rattle.std.specs.Prelude.{◌≤◌, length, vec_capacity};
+    ghost use Rattle.std.specs.Prelude.{◌≡◌, ◌≤◌, length, vec_capacity};
+    ghost use Rattle.kk_outside.specs.Sink.{bytes_written};
     ghost use Rattle.kk_outside.specs.SinkState.{SinkState};
 
     ghost Value = { SinkState };
 
     ghost view = { λ s. record {
-      written = s.bytes.items;
+      written = s.log;
       room = s.room;
       piece = s.piece;
       fails = s.plan.fails.items;
@@ -36,7 +39,11 @@ impl Model for MemorySink {
       faults = s.plan.faults;
     } };
 
-    ghost invariant = { λ s. (length s.bytes.items ≤ s.room) × (s.room ≤ vec_capacity s.bytes) × (1 ≤ s.piece) };
+    ghost invariant = { λ s.
+        (s.bytes.items ≡ bytes_written s.log)
+        × (length s.bytes.items ≤ s.room)
+        × (s.room ≤ vec_capacity s.bytes)
+        × (1 ≤ s.piece) };
 }
 
 impl MemorySink {
@@ -55,6 +62,7 @@ impl MemorySink {
             room,
             piece,
             plan: Plan::new(fails),
+            log: WriteLog::new(),
         })
     }
 
@@ -67,7 +75,7 @@ impl MemorySink {
 
     /// What it holds.
     pub fn bytes(&self) -> &[u8]
-        ensures held { result.now ≡ self.now.written }
+        ensures held { result.now ≡ bytes_written self.now.written }
         ensures within { length result.now ≤ self.now.room }
     {
         &self.bytes
@@ -87,13 +95,18 @@ impl Sink for MemorySink {
         ensures writes { WritesTo (change (told self.old) (told self.new)) result piece.now }
         ensures cause { HasCause self.old.faults self.new.faults result }
     {
-        self.plan.call()?;
+        if self.plan.call().is_err() {
+            self.log.add(Err(Failed), piece);
+            return Err(Failed);
+        }
         let room = self.room - self.bytes.len();
         if room == 0 && !piece.is_empty() {
+            self.log.add(Err(Failed), piece);
             return Err(self.plan.fault());
         }
         let n = self.piece.min(piece.len()).min(room);
         self.bytes.extend_from_slice(&piece[..n]).unwrap();
+        self.log.add(Ok(n), piece);
         Ok(n)
     }
 }

@@ -8,8 +8,7 @@ use crate::Failed;
 
 /// Where datagrams go out. It can be moved into a worker, and dropped with it.
 pub trait Outlet: Drop {
-    /// The datagrams that were sent, or `None` where it doesn't tell them; and how often it failed, a count that stops
-    /// at 2^64 - 1.
+    /// What its sends so far came to; and how often it failed, a count that stops at 2^64 - 1.
     ghost told: { Self → OutletTold };
 
     /// Sends this datagram, which isn't empty, whole; after `Failed` nothing of it.

@@ -8,8 +8,7 @@ use crate::Failed;
 
 /// Where bytes go.
 pub trait Sink {
-    /// The bytes that were written, or `None` where it doesn't tell them; and how often it failed, a count that stops
-    /// at 2^64 - 1.
+    /// What its writes so far came to; and how often it failed, a count that stops at 2^64 - 1.
     ghost told: { Self → SinkTold };
 
     /// Takes bytes from the front of `piece`, at least one unless it is empty, and answers how many.
@@ -18,7 +17,8 @@ pub trait Sink {
         ensures cause { HasCause (told self.old).faults (told self.new).faults result };
 }
 
-/// Writes all of `text`, with no call on the sink where it is empty. After `Failed` the sink has less than all of it.
+/// Writes all of `text`, with no call on the sink where it is empty. After `Failed` the sink has less than all of it, and
+/// the write that failed was the last.
 pub fn write_all<K: Sink>(sink: &mut K, text: &[u8]) -> Result<(), Failed>
     ensures writes { WritesAllTo (change (K.told sink.old) (K.told sink.new)) result text.now }
     ensures cause { HasCause (K.told sink.old).faults (K.told sink.new).faults result }

@@ -1,21 +1,23 @@
 //! A sink over any writer of std.
-ghost use Rattle.std.specs.Prelude.{◌≡◌, ◌↔◌, ◌⊎◌, ◌<◌, None, Ok, length, IfOk, IsErr, OnErr};
+ghost use Rattle.std.specs.Prelude.{◌≡◌, ◌↔◌, ◌⊎◌, ◌<◌, [], Ok, length, IfOk, IsErr, OnErr};
 ghost use Rattle.std.specs.Io.KnownBytes.{WriteAppends};
 ghost use Rattle.kk_outside.specs.Causes.{HasCause, one_more};
 ghost use Rattle.kk_outside.specs.Change.{change};
 ghost use Rattle.kk_outside.specs.Sink.{WritesTo};
 ghost use Rattle.kk_outside.specs.StdState.{sink_told};
 
+use crate::write_log::WriteLog;
 use crate::{Failed, Sink};
 use std::io;
 use std::io::Write;
 use std::marker::Model;
 
-/// Writes to a writer of std, and doesn't tell which bytes were written. Each error of the writer is a fault, and so is
+/// Writes to a writer of std, and tells what the writes came to, but not what the writer made of the bytes that it took. Each error of the writer is a fault, and so is
 /// a write that takes none of the bytes that it is given. It never flushes: give it a writer that holds nothing back.
 #[derive(Drop)]
 pub struct StdSink<W: Write> {
     writer: W,
+    log: WriteLog,
     faults: u64,
 }
 
@@ -24,16 +26,21 @@ impl<W: Write> Model for StdSink<W> {
 
     ghost Value = { StdSinkState };
 
-    ghost view = { λ s. record { known = W.contents s.writer; faults = s.faults } };
+    ghost view = { λ s. record { known = W.contents s.writer; written = s.log; faults = s.faults } };
 }
 
 impl<W: Write> StdSink<W> {
     /// A sink over this writer, with no fault so far.
     pub fn new(writer: W) -> StdSink<W>
         ensures known { result.known ≡ W.contents writer }
+        ensures written { result.written ≡ [] }
         ensures faults { result.faults ≡ 0 }
     {
-        StdSink { writer, faults: 0 }
+        StdSink {
+            writer,
+            log: WriteLog::new(),
+            faults: 0,
+        }
     }
 
     /// How many writes failed; the count stops at 2^64 - 1.
@@ -56,7 +63,9 @@ impl<W: Write> Sink for StdSink<W> {
         ensures cause { HasCause self.old.faults self.new.faults result }
     {
         let outcome = self.writer.write(piece);
-        answer(outcome, piece, &mut self.faults)
+        let answer = answer(outcome, piece, &mut self.faults);
+        self.log.add(answer, piece);
+        answer
     }
 }
 

@@ -24,7 +24,7 @@ pub fn ask<G: Gate, O: Outlet>(
     outlet: &mut O,
     buf: &mut [u8; GATE_BYTES],
 ) -> Result<Got, Failed>
-    ensures asked { OnOk result ((O.told outlet.new).sent ≡ append_datagrams (O.told outlet.old).sent ((1 ∷ []) ∷ [])) }
+    ensures asked { OnOk result ((O.told outlet.new).sends ≡ append_datagrams (O.told outlet.old).sends ((1 ∷ []) ∷ [])) }
     ensures told { IfOk result (λ got. (G.told gate.new).events ≡ (G.told gate.old).events ++ events_of_got got buf.new) }
 {
     outlet.send(&[1])?;

@@ -38,7 +38,7 @@ impl Model for UdpGate {
 
     ghost Value = { UdpGateState };
 
-    ghost view = { λ g. record { events = g.log; faults = g.faults } };
+    ghost view = { λ g. record { events = g.log.events; faults = g.faults } };
 }
 
 impl UdpGate {

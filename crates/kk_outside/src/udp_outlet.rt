@@ -1,5 +1,5 @@
 //! An outlet over a UDP socket.
-ghost use Rattle.std.specs.Prelude.{◌≡◌, ◌↔◌, ◌⊎◌, ◌<◌, Ok, Some, pos, true, false, length, IsTrue, IsErr, IsOk, IfOk, OnErr};
+ghost use Rattle.std.specs.Prelude.{◌≡◌, ◌↔◌, ◌⊎◌, ◌<◌, [], Ok, Some, pos, true, false, length, IsTrue, IsErr, IsOk, IfOk, OnErr};
 ghost use Rattle.std.specs.IoError.{error_kind, raw_os_error};
 ghost use Rattle.kk_outside.specs.Causes.{HasCause, one_more};
 ghost use Rattle.kk_outside.specs.Change.{change};
@@ -8,6 +8,7 @@ ghost use Rattle.kk_outside.specs.UdpState.{outlet_told, is_passing};
 
 use crate::open_fault::open_fault;
 use crate::pace::Pace;
+use crate::send_log::SendLog;
 use crate::{Failed, OpenFault, Outlet};
 use std::alloc::Global;
 use std::io;
@@ -21,12 +22,13 @@ const TRIES: u32 = 1000;
 /// The system's error for a device without room for a packet.
 const ENOBUFS: i32 = 105;
 
-/// Sends datagrams to one address by a UDP socket, and doesn't tell them. It sends no faster than a receiver on the same
+/// Sends datagrams to one address by a UDP socket, and tells what the sends came to. It sends no faster than a receiver on the same
 /// machine takes them, and waits where the system has no room for one. Each error of the socket is a fault, and so is each
 /// send of an outlet that has no socket. That nobody listens at the address is no error.
 #[derive(Drop)]
 pub struct UdpOutlet {
     link: Option<Link>,
+    log: SendLog,
     faults: u64,
 }
 
@@ -44,17 +46,18 @@ impl Model for UdpOutlet {
 
     ghost Value = { UdpOutletState };
 
-    ghost view = { λ o. record { has_socket = is_some o.link; faults = o.faults } };
+    ghost view = { λ o. record { has_socket = is_some o.link; sends = o.log; faults = o.faults } };
 }
 
 impl UdpOutlet {
     /// An outlet to this address, as `127.0.0.1:9000`. It takes no memory but the system's.
     pub fn open(rt: &HostRuntime, _alloc: Global, target: &str) -> Result<UdpOutlet, OpenFault>
-        ensures { IfOk result (λ o. o ≡ record { has_socket = true; faults = 0 }) }
+        ensures { IfOk result (λ o. o ≡ record { has_socket = true; sends = []; faults = 0 }) }
     {
         match Link::open(rt, target) {
             Ok(link) => Ok(UdpOutlet {
                 link: Some(link),
+                log: SendLog::new(),
                 faults: 0,
             }),
             Err(e) => Err(open_fault(e)),
@@ -63,10 +66,11 @@ impl UdpOutlet {
 
     /// An outlet without a socket, whose sends all fail.
     pub fn none() -> UdpOutlet
-        ensures { result ≡ record { has_socket = false; faults = 0 } }
+        ensures { result ≡ record { has_socket = false; sends = []; faults = 0 } }
     {
         UdpOutlet {
             link: None,
+            log: SendLog::new(),
             faults: 0,
         }
     }
@@ -96,7 +100,9 @@ impl Outlet for UdpOutlet {
             Some(link) => link.send(datagram),
             None => Err(ErrorKind::NotConnected.into()),
         };
-        answer(outcome, datagram, &mut self.faults)
+        let answer = answer(outcome, datagram, &mut self.faults);
+        self.log.add(answer, datagram);
+        answer
     }
 }
 

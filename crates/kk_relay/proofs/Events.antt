@@ -1,5 +1,5 @@
 -- A gate that is asked once more.
-use Rattle.std.proofs.Common.{◌≡◌, ℕ, true, false, List, [], ◌∷◌, ◌++◌, Option, Some, None, refl, ap, sym, subst, ◌∙◌}
+use Rattle.std.proofs.Common.{◌≡◌, ℕ, Bool, cond, ◌+◌, arith, true, false, List, [], ◌∷◌, ◌++◌, Option, Some, None, refl, ap, sym, subst, ◌∙◌}
 use Rattle.std.specs.Prelude.{is_none, IfSome}
 use Rattle.std.proofs.lemmas.Bool.{false≢true}
 use Rattle.std.proofs.lemmas.List.{append-nil}
@@ -11,8 +11,9 @@ use Rattle.kk_code.specs.Ticket.{TicketFields}
 use Rattle.kk_frame.specs.declared.frame.TheConstants.{FRAME_BYTES}
 use Rattle.kk_frame.specs.declared.gate_count.Ended.{Ended}
 use Rattle.kk_frame.specs.declared.gate_count.Ended.TheVariants as ended
+use Rattle.kk_frame.specs.declared.gate_count.GateCount.{GateCount}
 use Rattle.kk_frame.specs.declared.limits.Limits.{Limits}
-use Rattle.kk_frame.specs.Events.{stop, taken, counts}
+use Rattle.kk_frame.specs.Events.{end_with, stop, taken, counts, overs_to}
 use Rattle.kk_frame.specs.Intake.{IntakeState, IsAfter, is_running}
 use Rattle.kk_frame.proofs.Intakes.{ended_tells, ended_stops, taken-none}
 use Rattle.kk_relay.specs.Progress.{RoseWhere, HasAsked}
@@ -20,6 +21,23 @@ use Rattle.kk_relay.specs.Progress.{RoseWhere, HasAsked}
 not_failed : (o : Option Ended) → is_none o ≡ true → o ≡ Some ended.Fault → ⊥
 not_failed None h is = cc
 not_failed (Some e) h is = false≢true h
+
+-- a gate that goes on has not answered that its events are over
+no_overs : (o : Option Ended) → is_none o ≡ true → overs_to o ≡ 0
+no_overs None h = refl
+no_overs (Some e) h = absurd (false≢true h)
+
+overs_if : (a b c d : Bool) → overs_to (cond a (Some ended.End) (cond b (Some ended.Most) (cond c (Some ended.Idle) (cond d (Some ended.Fault) None)))) ≡ 0
+overs_if true b c d = refl
+overs_if false true c d = refl
+overs_if false false true d = refl
+overs_if false false false true = refl
+overs_if false false false false = refl
+
+-- nor has one that ended with an event
+overs_at_event : (t : TicketFields) (limits : Limits) (events : List Event) → overs_to (end_with FRAME_BYTES t limits events) ≡ 0
+unfolding end_with
+overs_at_event t limits events = overs_if _ _ _ _
 
 every : {A : Type 0} (P : A → Type 0) (o : Option A) → ((x : A) → P x) → IfSome o P
 every P None h = tt
@@ -29,6 +47,7 @@ every P (Some x) h = h x
 pub HasAsked-start : (t : TicketFields) (now : GateTold) (intake : IntakeState) → ((u : TicketFields) → IsAfter u [] intake) → is_running intake ≡ true → HasAsked t (change now now) [] [] intake
 HasAsked-start t now intake after running = record {
   took = TookEvents-nothing now;
+  over = omega (arith, no_overs intake.counts.ended running);
   all = (after t).all;
   frames_are = taken-none FRAME_BYTES t intake.limits;
   running = λ _. after t;
@@ -44,11 +63,12 @@ cause_after old new first second third running before now =
     subst (λ n. RoseWhere (new.counts.ended ≡ Some ended.Fault) n third) same now
 
 -- an event
-pub HasAsked-event : (t : TicketFields) (origin now end : GateTold) (events : List Event) (frames more : List (ℕ × ℕ)) (event : Event) (old new : IntakeState) → HasAsked t (change origin now) events frames old → is_running old ≡ true → TookEvents (event ∷ []) (change now end) → (IsAfter t events old → IsAfter t (events ++ event ∷ []) new) → (IsAfter t events old → taken FRAME_BYTES t old.limits (events ++ event ∷ []) ≡ taken FRAME_BYTES t old.limits events ++ more) → new.limits ≡ old.limits → RoseWhere (new.counts.ended ≡ Some ended.Fault) now.faults end.faults → HasAsked t (change origin end) (events ++ event ∷ []) (frames ++ more) new
-HasAsked-event t origin now end events frames more event old new asked running took after taking limits cause =
+pub HasAsked-event : (t : TicketFields) (origin now end : GateTold) (events : List Event) (frames more : List (ℕ × ℕ)) (event : Event) (old new : IntakeState) → HasAsked t (change origin now) events frames old → is_running old ≡ true → TookEvents (event ∷ []) (change now end) → end.overs ≡ now.overs → (IsAfter t events old → IsAfter t (events ++ event ∷ []) new) → (IsAfter t events old → taken FRAME_BYTES t old.limits (events ++ event ∷ []) ≡ taken FRAME_BYTES t old.limits events ++ more) → new.limits ≡ old.limits → RoseWhere (new.counts.ended ≡ Some ended.Fault) now.faults end.faults → HasAsked t (change origin end) (events ++ event ∷ []) (frames ++ more) new
+HasAsked-event t origin now end events frames more event old new asked running took overs after taking limits cause =
     let next = after (asked.running running) in
     record {
       took = TookEvents-append events (event ∷ []) origin now end asked.took took;
+      over = omega (arith, asked.over, overs, no_overs old.counts.ended running, ap (λ (c : GateCount). overs_to c.ended) next.counts, overs_at_event t new.limits (stop FRAME_BYTES t new.limits (events ++ event ∷ [])));
       all = next.all;
       frames_are =
           ap (λ l. taken FRAME_BYTES t l (events ++ event ∷ [])) limits
@@ -65,13 +85,14 @@ over_there t limits events None all over = tt
 over_there t limits events (Some more) all over = ap (λ (l : List Event). stop FRAME_BYTES t limits (events ++ l)) over ∙ ap (stop FRAME_BYTES t limits) (append-nil events) ∙ all
 
 -- no more events
-pub HasAsked-over : (t : TicketFields) (origin now end : GateTold) (events : List Event) (frames : List (ℕ × ℕ)) (old new : IntakeState) → HasAsked t (change origin now) events frames old → is_running old ≡ true → TookEvents [] (change now end) → IsOver end.left → (IsAfter t events old → new.counts ≡ counts FRAME_BYTES t old.limits events) → new.counts.ended ≡ Some ended.Over → new.limits ≡ old.limits → end.faults ≡ now.faults → HasAsked t (change origin end) (events ++ []) (frames ++ []) new
-HasAsked-over t origin now end events frames old new asked running took over counting is limits faults =
+pub HasAsked-over : (t : TicketFields) (origin now end : GateTold) (events : List Event) (frames : List (ℕ × ℕ)) (old new : IntakeState) → HasAsked t (change origin now) events frames old → is_running old ≡ true → TookEvents [] (change now end) → end.overs ≡ now.overs + 1 → IsOver end.left → (IsAfter t events old → new.counts ≡ counts FRAME_BYTES t old.limits events) → new.counts.ended ≡ Some ended.Over → new.limits ≡ old.limits → end.faults ≡ now.faults → HasAsked t (change origin end) (events ++ []) (frames ++ []) new
+HasAsked-over t origin now end events frames old new asked running took overs over counting is limits faults =
     let stays = is_running new ≡ true in
     let ended_now : is_running new ≡ false = ap is_none is in
     let all : stop FRAME_BYTES t new.limits (events ++ []) ≡ events ++ [] = ap (λ l. stop FRAME_BYTES t l (events ++ [])) limits ∙ ap (stop FRAME_BYTES t old.limits) (append-nil events) ∙ asked.all ∙ sym (append-nil events) in
     record {
       took = TookEvents-append events [] origin now end asked.took took;
+      over = omega (arith, asked.over, overs, no_overs old.counts.ended running, ap overs_to is);
       all = all;
       frames_are =
           ap (λ l. taken FRAME_BYTES t l (events ++ [])) limits

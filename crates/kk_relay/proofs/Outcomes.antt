@@ -1,6 +1,6 @@
 -- What a whole run of a relay comes to.
-use Rattle.std.proofs.Common.{◌≡◌, ℕ, ◌+◌, ◌*◌, ◌≤◌, true, false, List, [], ◌∷◌, ◌++◌, length, take, Option, Some, None, inl, refl, ap, sym, subst, ◌∙◌, arith, append_assoc, length-append, Bool}
-use Rattle.std.specs.Prelude.{IfSome, is_some, flat_map, unwrap_or}
+use Rattle.std.proofs.Common.{◌≡◌, ℕ, ◌+◌, ◌*◌, ◌≤◌, true, false, List, [], ◌∷◌, ◌++◌, length, take, Option, Some, None, inl, inr, refl, ap, sym, subst, ◌∙◌, arith, append_assoc, length-append, Bool}
+use Rattle.std.specs.Prelude.{IfSome, is_none, is_some, flat_map, unwrap_or}
 use Rattle.std.proofs.Math.Nat.{mul-le-mul_right}
 use Rattle.std.proofs.lemmas.Bool.{false≢true}
 use Rattle.std.proofs.lemmas.Grind.{flat_map-append}
@@ -10,7 +10,7 @@ use Rattle.rand_core.specs.Stream.{Stream}
 use Rattle.kk_outside.specs.Change.{Change, change}
 use Rattle.kk_outside.specs.declared.event.Event.{Event}
 use Rattle.kk_outside.specs.Gate.{GateTold, TookEvents, prepend_events, events_told}
-use Rattle.kk_outside.specs.Outlet.{OutletTold, append_datagrams}
+use Rattle.kk_outside.specs.Outlet.{OutletTold, Send, Failed, append_datagrams, append_failing}
 use Rattle.kk_outside.proofs.Taken.{events_told-took, append_datagrams-append}
 use Rattle.kk_code.specs.Ticket.{TicketFields}
 use Rattle.kk_frame.specs.declared.datagram.TheConstants.{MAX_DATAGRAM_FRAMES}
@@ -21,16 +21,16 @@ use Rattle.kk_frame.specs.declared.gate_count.Ended.TheVariants as ended
 use Rattle.kk_frame.specs.declared.gate_count.GateCount.{GateCount}
 use Rattle.kk_frame.specs.declared.limits.Limits.{Limits}
 use Rattle.kk_frame.specs.Datagram.{readings, data_frames}
-use Rattle.kk_frame.specs.Events.{datagrams, all_readings, end_with, stop, taken, counts}
+use Rattle.kk_frame.specs.Events.{datagrams, all_readings, end_with, stop, taken, counts, overs_to}
 use Rattle.kk_frame.specs.Frame.{End, frame_text}
 use Rattle.kk_frame.specs.Intake.{IntakeState, IsIntake, IsAfter, is_running}
 use Rattle.kk_frame.proofs.Intakes.{running_goes_on}
 use Rattle.kk_frame.proofs.Readings.{data_frames-append}
 use Rattle.kk_frame.proofs.Stops.{datagrams-append}
-use Rattle.kk_relay.specs.Progress.{AreCut, HasRelayed, BreaksOff, EndsShort, IsCutShort, AsksUpToStop, StopsThere, HasAsked}
+use Rattle.kk_relay.specs.Progress.{AreCut, HasRelayed, BreaksOff, LacksEnd, EndsShort, IsCutShort, AsksUpToStop, StopsThere, HasAsked}
 use Rattle.kk_relay.specs.RelayState.{BasisState, relay_after}
 use Rattle.kk_relay.specs.Relaying.{relayed, sent_behind, datagrams_of, is_failure, last_datagrams, relay_list}
-use Rattle.kk_outside.specs.Generator.{word_at}
+use Rattle.kk_outside.specs.Generator.{after_words, word_at}
 use Rattle.kk_relay.proofs.Events.{HasAsked-start}
 use Rattle.kk_relay.proofs.Relays.{relayed-append, sent_behind-nil}
 use Rattle.kk_relay.proofs.Sends.{AreSent-nothing, AreSent-same, length-datagrams_of, datagrams_of-append}
@@ -58,6 +58,10 @@ left_of t limits events told (Some all) None left are whole = absurd (cc left)
 left_of t limits events told (Some all) (Some more) left are whole =
     ap (stop FRAME_BYTES t limits) (same_Some _ _ left) ∙ whole ∙ sym are
 
+running_overs : (ended_so : Option Ended) → is_none ended_so ≡ true → overs_to ended_so ≡ 0
+running_overs None h = refl
+running_overs (Some e) h = absurd (false≢true h)
+
 -- what was asked of a gate by an intake
 module _ (t : TicketFields) (limits : Limits) (gate : Change GateTold) (events : List Event) (frames : List (ℕ × ℕ)) (intake : IntakeState) (is : intake.limits ≡ limits) (asked : HasAsked t gate events frames intake) where
   pub told_is : events_told gate ≡ events
@@ -69,20 +73,31 @@ module _ (t : TicketFields) (limits : Limits) (gate : Change GateTold) (events :
   stop_is : stop FRAME_BYTES t limits events ≡ events
   stop_is = ap (λ l. stop FRAME_BYTES t l events) (sym is) ∙ asked.all
 
-  pub asks : AsksUpToStop t limits gate
-  asks = record {
-    took = subst (λ es. TookEvents es gate) (sym told_is) asked.took;
-    no_further = ap (stop FRAME_BYTES t limits) told_is ∙ stop_is ∙ sym told_is;
-  }
-
   pub counts_is : is_running intake ≡ false → intake.counts ≡ counts FRAME_BYTES t limits (events_told gate)
   counts_is over =
       asked.counts_are over
       ∙ ap (λ l. counts FRAME_BYTES t l events) is
       ∙ ap (counts FRAME_BYTES t limits) (sym told_is)
 
+  over_once_by : (running : Bool) → is_running intake ≡ running → gate.new.overs ≤ gate.old.overs + overs_to (counts FRAME_BYTES t limits (events_told gate)).ended
+  over_once_by true running = omega (arith, asked.over, running_overs intake.counts.ended running)
+  over_once_by false over = omega (arith, asked.over, ap (λ (c : GateCount). overs_to c.ended) (counts_is over))
+
+  pub asks : AsksUpToStop t limits gate
+  asks = record {
+    took = subst (λ es. TookEvents es gate) (sym told_is) asked.took;
+    no_further = ap (stop FRAME_BYTES t limits) told_is ∙ stop_is ∙ sym told_is;
+    over_once = over_once_by (is_running intake) refl;
+  }
+
+  stop_there : is_running intake ≡ false → IfSome gate.old.left (λ all. stop FRAME_BYTES t limits all ≡ events_told gate)
+  stop_there over = left_of t limits events (events_told gate) gate.old.left gate.new.left asked.took.left told_is (subst (λ l. IfSome gate.new.left (λ more. stop FRAME_BYTES t l (events ++ more) ≡ events)) is (asked.whole over))
+
   pub stops_there : is_running intake ≡ false → StopsThere t limits gate
-  stops_there over = left_of t limits events (events_told gate) gate.old.left gate.new.left asked.took.left told_is (subst (λ l. IfSome gate.new.left (λ more. stop FRAME_BYTES t l (events ++ more) ≡ events)) is (asked.whole over))
+  stops_there over = record {
+    stop_is = stop_there over;
+    over = asked.over ∙ ap (λ (c : GateCount). gate.old.overs + overs_to c.ended) (counts_is over);
+  }
 
 -- ---- a run
 
@@ -144,11 +159,11 @@ module _ (t : TicketFields) (limits : Limits) (rate : ℕ) (start : Stream) (gat
       ap (λ (l : List (ℕ × ℕ)). datagrams_of t (relayed rate (word_at start) l) ++ last_datagrams t (counts FRAME_BYTES t limits (events_told gate)).ended) (taken_is t limits gate run.events run.frames intake run.is run.asked)
       ∙ ap (λ (c : GateCount). datagrams_of t (relayed rate (word_at start) run.frames) ++ last_datagrams t c.ended) (sym (counts_is t limits gate run.events run.frames intake run.is run.asked over))
 
-  pub list_failed : is_failure intake.counts.ended ≡ true → outlet.new.sent ≡ append_datagrams outlet.old.sent (relay_list t limits rate (word_at start) (events_told gate))
+  pub list_failed : is_failure intake.counts.ended ≡ true → outlet.new.sends ≡ append_datagrams outlet.old.sends (relay_list t limits rate (word_at start) (events_told gate))
   list_failed failed =
       let none : last_datagrams t intake.counts.ended ≡ [] = rw failed refl in
       run.progress.sent.sent
-      ∙ ap (append_datagrams outlet.old.sent)
+      ∙ ap (append_datagrams outlet.old.sends)
       (sym (append-nil (datagrams_of t (relayed rate (word_at start) run.frames)))
       ∙ ap (λ (l : List (List ℕ)). datagrams_of t (relayed rate (word_at start) run.frames) ++ l) (sym none)
       ∙ sym list_is)
@@ -159,24 +174,33 @@ module _ (t : TicketFields) (limits : Limits) (rate : ℕ) (start : Stream) (gat
       list_is ∙ ap (λ (l : List (List ℕ)). datagrams_of t (relayed rate (word_at start) run.frames) ++ l) one
 
   -- END was sent too
-  pub list_sent : (end : OutletTold) → is_failure intake.counts.ended ≡ false → end.sent ≡ append_datagrams outlet.new.sent (frame_text t End ∷ []) → end.sent ≡ append_datagrams outlet.old.sent (relay_list t limits rate (word_at start) (events_told gate))
+  pub list_sent : (end : OutletTold) → is_failure intake.counts.ended ≡ false → end.sends ≡ append_datagrams outlet.new.sends (frame_text t End ∷ []) → end.sends ≡ append_datagrams outlet.old.sends (relay_list t limits rate (word_at start) (events_told gate))
   list_sent end well last =
       last
       ∙ ap (λ o. append_datagrams o (frame_text t End ∷ [])) run.progress.sent.sent
-      ∙ append_datagrams-append outlet.old.sent (datagrams_of t (relayed rate (word_at start) run.frames)) (frame_text t End ∷ [])
-      ∙ ap (append_datagrams outlet.old.sent) (sym (list_ended well))
+      ∙ append_datagrams-append outlet.old.sends (datagrams_of t (relayed rate (word_at start) run.frames)) (frame_text t End ∷ [])
+      ∙ ap (append_datagrams outlet.old.sends) (sym (list_ended well))
 
   -- the send of END failed
-  pub list_without_end : (end : OutletTold) → is_failure intake.counts.ended ≡ false → end.sent ≡ outlet.new.sent → IsCutShort (change outlet.old end) (relay_list t limits rate (word_at start) (events_told gate))
-  list_without_end end well kept =
+  pub list_without_end : (end : OutletTold) → is_failure intake.counts.ended ≡ false → end.sends ≡ outlet.new.sends ++ Failed ∷ [] → IsCutShort (change outlet.old end) (relay_list t limits rate (word_at start) (events_told gate))
+  list_without_end end well failed =
       let front = datagrams_of t (relayed rate (word_at start) run.frames) in
       record {
         number = length front;
         few = omega (arith, ap length (list_ended well), length-append front (frame_text t End ∷ []));
         sent =
-            kept ∙ run.progress.sent.sent
-            ∙ ap (append_datagrams outlet.old.sent) (sym (ap (take (length front)) (list_ended well) ∙ take_at front (frame_text t End ∷ []) (length front) refl));
+            failed ∙ ap (λ (l : List Send). l ++ Failed ∷ []) run.progress.sent.sent
+            ∙ ap (append_failing outlet.old.sends) (sym (ap (take (length front)) (list_ended well) ∙ take_at front (frame_text t End ∷ []) (length front) refl));
       }
+
+  pub lacks_end : (end : OutletTold) → end.sends ≡ outlet.new.sends ++ Failed ∷ [] → EndsShort t rate start (taken FRAME_BYTES t limits (events_told gate)) (change outlet.old end) relay words
+  lacks_end end failed =
+      let lacks : LacksEnd t rate start run.frames (change outlet.old end) relay words = record {
+        holds = run.progress.holds;
+        sent = failed ∙ ap (λ (l : List Send). l ++ Failed ∷ []) run.progress.sent.sent;
+        drawn = run.progress.sent.drawn ∙ ap (λ (n : ℕ). after_words n start) (omega arith);
+      } in
+      inr (subst (λ l. LacksEnd t rate start l (change outlet.old end) relay words) (sym (taken_is t limits gate run.events run.frames intake run.is run.asked)) lacks)
 
 -- the list of all events that a gate had left, where these are told up to the stop
 list_same : (t : TicketFields) (limits : Limits) (rate : ℕ) (word : ℕ → ℕ) (all told : List Event) → stop FRAME_BYTES t limits all ≡ told → stop FRAME_BYTES t limits told ≡ told → relay_list t limits rate word all ≡ relay_list t limits rate word told
@@ -188,12 +212,12 @@ cut_same outlet t limits rate word told None cut whole is = tt
 cut_same outlet t limits rate word told (Some all) cut whole is = subst (IsCutShort outlet) (sym (list_same t limits rate word all told is whole)) cut
 
 -- the send of END failed: less than the list of all events that the gate had left was sent
-pub without_end_of_all : (t : TicketFields) (limits : Limits) (rate : ℕ) (start : Stream) (gate : Change GateTold) (outlet : Change OutletTold) (intake : IntakeState) (relay : List BasisState) (words : Stream) (sent : ℕ) (end : OutletTold) → Run t limits rate start gate outlet intake relay words sent → is_running intake ≡ false → is_failure intake.counts.ended ≡ false → end.sent ≡ outlet.new.sent → IfSome gate.old.left (λ all. IsCutShort (change outlet.old end) (relay_list t limits rate (word_at start) all))
-without_end_of_all t limits rate start gate outlet intake relay words sent end run over well kept =
+pub without_end_of_all : (t : TicketFields) (limits : Limits) (rate : ℕ) (start : Stream) (gate : Change GateTold) (outlet : Change OutletTold) (intake : IntakeState) (relay : List BasisState) (words : Stream) (sent : ℕ) (end : OutletTold) → Run t limits rate start gate outlet intake relay words sent → is_running intake ≡ false → is_failure intake.counts.ended ≡ false → end.sends ≡ outlet.new.sends ++ Failed ∷ [] → IfSome gate.old.left (λ all. IsCutShort (change outlet.old end) (relay_list t limits rate (word_at start) all))
+without_end_of_all t limits rate start gate outlet intake relay words sent end run over well failed =
     cut_same (change outlet.old end) t limits rate (word_at start) (events_told gate) gate.old.left
-    (list_without_end t limits rate start gate outlet intake relay words sent run over end well kept)
+    (list_without_end t limits rate start gate outlet intake relay words sent run over end well failed)
     (asks t limits gate run.events run.frames intake run.is run.asked).no_further
-    (stops_there t limits gate run.events run.frames intake run.is run.asked over)
+    (stops_there t limits gate run.events run.frames intake run.is run.asked over).stop_is
 
 -- ---- a send of what is sent for data frames failed
 
@@ -207,7 +231,7 @@ cut_of t rate start n frames more rest outlet words cut =
     record {
       number = n;
       few = omega (arith, cut.few, count, ap length whole, length-append (datagrams_of t sent) (datagrams_of t others ++ rest));
-      sent = cut.sent ∙ ap (append_datagrams outlet.old.sent) (sym (ap (take n) whole ∙ take-append-le n (datagrams_of t sent) (datagrams_of t others ++ rest) (omega (arith, cut.few, count))));
+      sent = cut.sent ∙ ap (append_failing outlet.old.sends) (sym (ap (take n) whole ∙ take-append-le n (datagrams_of t sent) (datagrams_of t others ++ rest) (omega (arith, cut.few, count))));
     }
 
 stop_on : (t : TicketFields) (limits : Limits) (events : List Event) (intake : IntakeState) (running : Bool) → is_running intake ≡ running → intake.limits ≡ limits → (is_running intake ≡ true → IsAfter t events intake) → (all more : List Event) → all ≡ events ++ more → (is_running intake ≡ false → stop FRAME_BYTES t limits (events ++ more) ≡ events) → (after : List Event) × (stop FRAME_BYTES t limits all ≡ events ++ after)

@@ -6,8 +6,8 @@ use Rattle.std.proofs.Math.Seq.{take-append-add}
 use Rattle.rand_core.specs.Stream.{Stream, next_u64}
 use Rattle.kk_rows.specs.Combination.{combination}
 use Rattle.kk_outside.specs.Change.{Change, change}
-use Rattle.kk_outside.specs.Outlet.{OutletTold, append_datagrams}
-use Rattle.kk_outside.proofs.Taken.{append_datagrams-append, append_datagrams-nil}
+use Rattle.kk_outside.specs.Outlet.{OutletTold, Failed, append_datagrams, append_failing}
+use Rattle.kk_outside.proofs.Taken.{append_datagrams-append, append_datagrams-nil, append_failing-append, append_failing-nil}
 use Rattle.kk_code.specs.Ticket.{TicketFields}
 use Rattle.kk_frame.specs.Frame.{Vector, frame_text}
 use Rattle.kk_relay.specs.Progress.{AreSent, AreCut}
@@ -27,7 +27,7 @@ datagrams_of-append t a b = map-append (datagram t) a b
 -- none
 pub AreSent-nothing : (t : TicketFields) (start : Stream) (first : ℕ) (now : OutletTold) (words : Stream) → words ≡ after_words first start → AreSent t start first [] (change now now) words
 AreSent-nothing t start first now words at = record {
-  sent = sym (append_datagrams-nil now.sent);
+  sent = sym (append_datagrams-nil now.sends);
   drawn = at ∙ ap (λ (n : ℕ). after_words n start) (omega arith);
 }
 
@@ -37,8 +37,8 @@ AreSent-append t start first second a b old now end words later one next two = r
   sent =
       two.sent
       ∙ ap (λ o. append_datagrams o (datagrams_of t b)) one.sent
-      ∙ append_datagrams-append old.sent (datagrams_of t a) (datagrams_of t b)
-      ∙ ap (append_datagrams old.sent) (sym (datagrams_of-append t a b));
+      ∙ append_datagrams-append old.sends (datagrams_of t a) (datagrams_of t b)
+      ∙ ap (append_datagrams old.sends) (sym (datagrams_of-append t a b));
   drawn = two.drawn ∙ ap (λ (n : ℕ). after_words n start) (omega (arith, next, length-append a b));
 }
 
@@ -50,9 +50,9 @@ AreCut-append t start first second n a b old now end words later one next two =
       few = omega (arith, two.few, length-append a b);
       sent =
           two.sent
-          ∙ ap (λ o. append_datagrams o (take n (datagrams_of t b))) one.sent
-          ∙ append_datagrams-append old.sent (datagrams_of t a) (take n (datagrams_of t b))
-          ∙ ap (append_datagrams old.sent)
+          ∙ ap (λ o. append_failing o (take n (datagrams_of t b))) one.sent
+          ∙ append_failing-append old.sends (datagrams_of t a) (take n (datagrams_of t b))
+          ∙ ap (append_failing old.sends)
           (sym (take-append-add (datagrams_of t a) (datagrams_of t b) n)
           ∙ ap (λ (k : ℕ). take (k + n) (datagrams_of t a ++ datagrams_of t b)) front
           ∙ ap (take (length a + n)) (sym (datagrams_of-append t a b)));
@@ -65,7 +65,7 @@ AreCut-more t start first n a b old now words cut = record {
   few = omega (arith, cut.few, length-append a b);
   sent =
       cut.sent
-      ∙ ap (append_datagrams old.sent)
+      ∙ ap (append_failing old.sends)
       (sym (take-append-le n (datagrams_of t a) (datagrams_of t b) (omega (arith, cut.few, length-datagrams_of t a)))
       ∙ ap (take n) (sym (datagrams_of-append t a b)));
   drawn = cut.drawn;
@@ -109,23 +109,23 @@ module _ (t : TicketFields) (start : Stream) (first g : ℕ) (rows : List ℕ) (
   whole = combinations-more (word_at start) g rows first n
 
   -- it was sent
-  pub AreSent-more : end.sent ≡ append_datagrams now.sent (frame_text t (Vector g (combination rows word)) ∷ []) → AreSent t start first (combinations (word_at start) g rows first (n + 1)) (change old end) later
+  pub AreSent-more : end.sends ≡ append_datagrams now.sends (frame_text t (Vector g (combination rows word)) ∷ []) → AreSent t start first (combinations (word_at start) g rows first (n + 1)) (change old end) later
   AreSent-more sent =
       let one : AreSent t start (first + n) ((g, combination rows (word_at start (first + n))) ∷ []) (change now end) later = record {
-        sent = sent ∙ ap (λ l. append_datagrams now.sent (l ∷ [])) text;
+        sent = sent ∙ ap (λ l. append_datagrams now.sends (l ∷ [])) text;
         drawn = drawn_left start words later (first + n) word at draws;
       } in
       subst (λ l. AreSent t start first l (change old end) later) (sym whole)
       (AreSent-append t start first (first + n) _ _ old now end words later so_far (omega (arith, count)) one)
 
   -- its send failed
-  pub AreCut-next : (rate : ℕ) → n < rate → end.sent ≡ now.sent → (k : ℕ) × AreCut t start first k (combinations (word_at start) g rows first rate) (change old end) later
-  AreCut-next rate fewer kept =
+  pub AreCut-next : (rate : ℕ) → n < rate → end.sends ≡ now.sends ++ Failed ∷ [] → (k : ℕ) × AreCut t start first k (combinations (word_at start) g rows first rate) (change old end) later
+  AreCut-next rate fewer failed =
       let front = combinations (word_at start) g rows first n in
       let last = (g, combination rows (word_at start (first + n))) ∷ [] in
       let one : AreCut t start (first + n) 0 last (change now end) later = record {
         few = omega arith;
-        sent = kept ∙ sym (append_datagrams-nil now.sent);
+        sent = failed ∙ sym (append_failing-nil now.sends);
         drawn = drawn_left start words later (first + n) word at draws ∙ ap (λ (k : ℕ). after_words k start) (omega arith);
       } in
       let cut = AreCut-append t start first (first + n) 0 front last old now end words later so_far (omega (arith, count)) one in

@@ -26,27 +26,30 @@ use kk_outside::{Alloc, Failed, GATE_BYTES, Gate, Outlet};
 use kk_rows::Row;
 use rand_core::Rng;
 use std::alloc::Global;
+use std::boxed::BoxedSlice;
 use std::marker::Model;
 
 /// The most combinations that are sent for a data frame.
 pub const MAX_RATE: u32 = 16;
 
-/// What a relay holds: of each generation the innovative rows, in the order in which they came.
+/// What a relay holds: of each generation the innovative rows, in the order in which they came. Nothing of it can grow, and
+/// it lends no allocator, so behind a `&mut` no call can take memory by it.
 #[derive(Drop)]
 pub struct Relay {
-    generations: Vec<Basis>,
+    generations: BoxedSlice<Basis>,
 }
 
 impl Model for Relay {
     ghost use Rattle.std.specs.Prelude.{◌≤◌, List, length};
+    ghost use Rattle.std.specs.Box.{boxed_slice_items};
     ghost use Rattle.kk_code.specs.declared.ticket.TheConstants.{MAX_GENERATIONS};
     ghost use Rattle.kk_relay.specs.RelayState.{BasisState};
 
     ghost Value = { List BasisState };
 
-    ghost view = { λ r. r.generations.items };
+    ghost view = { λ r. boxed_slice_items r.generations };
 
-    ghost invariant = { λ r. length r.generations.items ≤ MAX_GENERATIONS };
+    ghost invariant = { λ r. length (boxed_slice_items r.generations) ≤ MAX_GENERATIONS };
 }
 
 impl Relay {
@@ -61,7 +64,9 @@ impl Relay {
         for _ in 0..count {
             generations.push_reserved(Basis::new(width));
         }
-        Ok(Relay { generations })
+        Ok(Relay {
+            generations: generations.into_boxed_slice(),
+        })
     }
 
     /// The innovative rows of a generation, in the order in which they came.
@@ -108,7 +113,7 @@ impl Relay {
         ensures stop { (result ≡ Err RelayFault.Outlet → ⊥) → StopsThere ticket.now limits.now (change (G.told gate.old) (G.told gate.new)) }
 
         // What was sent: the relay's list, and after a fault of the outlet less, from its front.
-        ensures sent { (result ≡ Err RelayFault.Outlet → ⊥) → (O.told outlet.new).sent ≡ append_datagrams (O.told outlet.old).sent
+        ensures sent { (result ≡ Err RelayFault.Outlet → ⊥) → (O.told outlet.new).sends ≡ append_datagrams (O.told outlet.old).sends
             (relay_list ticket.now limits.now rate (word_at (R.stream rng.old)) (events_told (change (G.told gate.old) (G.told gate.new)))) }
         ensures cut_short { result ≡ Err RelayFault.Outlet → IsCutShort (change (O.told outlet.old) (O.told outlet.new))
             (relay_list ticket.now limits.now rate (word_at (R.stream rng.old)) (events_told (change (G.told gate.old) (G.told gate.new)))) }

@@ -28,7 +28,7 @@ fn relay_gate<G: Gate, O: Outlet, R: Rng>(
     outlet: &mut O,
     rng: &mut R,
 ) -> Option<u64>
-    ensures { IfSome result (λ _. (O.told outlet.new).sent ≡ append_datagrams (O.told outlet.old).sent
+    ensures { IfSome result (λ _. (O.told outlet.new).sends ≡ append_datagrams (O.told outlet.old).sends
         (relay_list ticket.now (record { idle = 300; most = 1000 }) 1 (word_at (R.stream rng.old)) (events_told (change (G.told gate.old) (G.told gate.new))))) }
 {
     let limits = Limits {

@@ -8,7 +8,8 @@ use Rattle.std.proofs.lemmas.Bool.{cases_lt}
 use Rattle.std.proofs.lemmas.List.{append-nil, take_all, drop_all, take-append-le, drop-append-le, length-map}
 use Rattle.std.proofs.lemmas.List.Concat.{flat_map-append}
 use Rattle.kk_outside.specs.Change.{Change, change}
-use Rattle.kk_outside.specs.Outlet.{OutletTold, append_datagrams}
+use Rattle.kk_outside.specs.Outlet.{OutletTold, Send, Failed, append_datagrams, append_failing}
+use Rattle.kk_outside.proofs.Taken.{append_datagrams-append, append_datagrams-nil, append_failing-append}
 use Rattle.kk_code.specs.Ticket.{TicketFields}
 use Rattle.kk_frame.specs.Frame.{FrameValue, frame_text}
 use Rattle.kk_sender.specs.SentFrames.{text_of, datagrams_of}
@@ -99,14 +100,6 @@ some_datagrams t pack frames some frames_some =
 
 -- ---- what is out
 
-pub append_datagrams-append : (sent : Option (List (List ℕ))) (a b : List (List ℕ)) → append_datagrams (append_datagrams sent a) b ≡ append_datagrams sent (a ++ b)
-append_datagrams-append None a b = refl
-append_datagrams-append (Some ds) a b = ap Some (append_assoc ds a b)
-
-pub append_datagrams-none : (sent : Option (List (List ℕ))) → append_datagrams sent [] ≡ sent
-append_datagrams-none None = refl
-append_datagrams-none (Some ds) = ap Some (append-nil ds)
-
 text_more : (t : TicketFields) (frames : List FrameValue) (frame : FrameValue) → text_of t frames ++ frame_text t frame ≡ text_of t (frames ++ frame ∷ [])
 text_more t frames frame = sym (flat_map-append (frame_text t) frames (frame ∷ []) ∙ ap (λ l. text_of t frames ++ l) (append-nil (frame_text t frame)))
 
@@ -115,7 +108,8 @@ pub IsPending-start : (t : TicketFields) (now : OutletTold) (pack : ℕ) → 0 <
 IsPending-start t now pack some = record {
   out = [];
   waiting = [];
-  is_out = record { parts = refl; count = 0; whole = sym (zero-mul pack); sent = sym (ap (append_datagrams now.sent) (datagrams-none t pack some) ∙ append_datagrams-none now.sent) };
+  is_out = record { parts = refl; count = 0; whole = sym (zero-mul pack) };
+  sent = sym (ap (append_datagrams now.sends) (datagrams-none t pack some) ∙ append_datagrams-nil now.sends);
   bytes = refl;
   count = refl;
 }
@@ -131,15 +125,15 @@ IsPending-waits t outlet old new frames frame same more bytes pending =
         parts = ap (λ l. l ++ frame ∷ []) is.parts ∙ append_assoc pending.out pending.waiting (frame ∷ []);
         count = is.count;
         whole = is.whole ∙ ap (λ n. is.count * n) (sym same);
-        sent = is.sent ∙ ap (λ n. append_datagrams outlet.old.sent (datagrams_of t n pending.out)) (sym same);
       };
+      sent = pending.sent ∙ ap (λ n. append_datagrams outlet.old.sends (datagrams_of t n pending.out)) (sym same);
       bytes = bytes ∙ ap (λ l. l ++ frame_text t frame) pending.bytes ∙ text_more t pending.waiting frame;
       count = omega (arith, more, pending.count, length-append pending.waiting (frame ∷ []));
     }
 
 -- the datagram, with a frame more, went out
 pub IsPending-sent : (t : TicketFields) (start now after : OutletTold) (old new : DatagramState) (datagram : List ℕ) (frames : List FrameValue) (frame : FrameValue)
-    → 0 < old.pack → new.pack ≡ old.pack → new.frames ≡ 0 → new.bytes ≡ [] → old.frames + 1 ≡ old.pack → datagram ≡ old.bytes ++ frame_text t frame → after.sent ≡ append_datagrams now.sent (datagram ∷ [])
+    → 0 < old.pack → new.pack ≡ old.pack → new.frames ≡ 0 → new.bytes ≡ [] → old.frames + 1 ≡ old.pack → datagram ≡ old.bytes ++ frame_text t frame → after.sends ≡ append_datagrams now.sends (datagram ∷ [])
     → IsPending t (change start now) old frames → IsPending t (change start after) new (frames ++ frame ∷ [])
 IsPending-sent t start now after old new datagram frames frame some same none empty full bytes went pending =
     let is = pending.is_out in
@@ -156,20 +150,20 @@ IsPending-sent t start now after old new datagram frames frame some same none em
         parts = ap (λ l. l ++ frame ∷ []) is.parts ∙ append_assoc pending.out pending.waiting (frame ∷ []) ∙ sym (append-nil (pending.out ++ last));
         count = suc is.count;
         whole = length-append pending.out last ∙ omega (arith, is.whole, many, suc-mul is.count old.pack) ∙ ap (λ n. suc is.count * n) (sym same);
-        sent =
-            went ∙ ap (λ s. append_datagrams s (datagram ∷ [])) is.sent
-            ∙ append_datagrams-append start.sent (datagrams_of t old.pack pending.out) (datagram ∷ [])
-            ∙ ap (append_datagrams start.sent) (sym list)
-            ∙ ap (λ n. append_datagrams start.sent (datagrams_of t n (pending.out ++ last))) (sym same);
       };
+      sent =
+          went ∙ ap (λ s. append_datagrams s (datagram ∷ [])) pending.sent
+          ∙ append_datagrams-append start.sends (datagrams_of t old.pack pending.out) (datagram ∷ [])
+          ∙ ap (append_datagrams start.sends) (sym list)
+          ∙ ap (λ n. append_datagrams start.sends (datagrams_of t n (pending.out ++ last))) (sym same);
       bytes = empty;
       count = none;
     }
 
--- it didn't
+-- its send failed
 pub IsCut-unsent : (t : TicketFields) (start now after : OutletTold) (old : DatagramState) (frames : List FrameValue) (frame : FrameValue)
-    → after.sent ≡ now.sent → IsPending t (change start now) old frames → IsCut t old.pack (change start after) (frames ++ frame ∷ [])
-IsCut-unsent t start now after old frames frame kept pending =
+    → after.sends ≡ now.sends ++ Failed ∷ [] → IsPending t (change start now) old frames → IsCut t old.pack (change start after) (frames ++ frame ∷ [])
+IsCut-unsent t start now after old frames frame failed pending =
     let is = pending.is_out in record {
       out = pending.out;
       others = pending.waiting ++ frame ∷ [];
@@ -177,15 +171,15 @@ IsCut-unsent t start now after old frames frame kept pending =
         parts = ap (λ l. l ++ frame ∷ []) is.parts ∙ append_assoc pending.out pending.waiting (frame ∷ []);
         count = is.count;
         whole = is.whole;
-        sent = kept ∙ is.sent;
       };
+      sent = failed ∙ ap (λ (l : List Send). l ++ Failed ∷ []) pending.sent;
       some = omega (arith, length-append pending.waiting (frame ∷ []));
     }
 
 -- the frames that wait were all that is left, and they went out
 pub sent_all : (t : TicketFields) (start now after : OutletTold) (held : DatagramState) (frames : List FrameValue)
-    → 0 < held.pack → held.frames ≤ held.pack → 0 < held.frames → after.sent ≡ append_datagrams now.sent (held.bytes ∷ []) → IsPending t (change start now) held frames
-    → after.sent ≡ append_datagrams start.sent (datagrams_of t held.pack frames)
+    → 0 < held.pack → held.frames ≤ held.pack → 0 < held.frames → after.sends ≡ append_datagrams now.sends (held.bytes ∷ []) → IsPending t (change start now) held frames
+    → after.sends ≡ append_datagrams start.sends (datagrams_of t held.pack frames)
 sent_all t start now after held frames some few waits went pending =
     let is = pending.is_out in
     let waiting = pending.waiting in
@@ -193,9 +187,9 @@ sent_all t start now after held frames some few waits went pending =
     ap (datagrams_of t held.pack) is.parts
     ∙ datagrams-append t held.pack is.count pending.out waiting some is.whole
     ∙ ap (λ l. datagrams_of t held.pack pending.out ++ l) (datagrams-last t held.pack waiting (omega (arith, pending.count, waits)) (omega (arith, pending.count, few)) ∙ ap (λ d. d ∷ []) (sym pending.bytes)) in
-    went ∙ ap (λ s. append_datagrams s (held.bytes ∷ [])) is.sent
-    ∙ append_datagrams-append start.sent (datagrams_of t held.pack pending.out) (held.bytes ∷ [])
-    ∙ ap (append_datagrams start.sent) (sym list)
+    went ∙ ap (λ s. append_datagrams s (held.bytes ∷ [])) pending.sent
+    ∙ append_datagrams-append start.sends (datagrams_of t held.pack pending.out) (held.bytes ∷ [])
+    ∙ ap (append_datagrams start.sends) (sym list)
 
 none_left : {X : Type 0} (xs : List X) → length xs ≡ 0 → xs ≡ []
 none_left [] none = refl
@@ -203,20 +197,21 @@ none_left (x ∷ xs) none = absurd (omega (arith, none))
 
 -- none waited
 pub sent_all-none : (t : TicketFields) (start now : OutletTold) (held : DatagramState) (frames : List FrameValue)
-    → held.frames ≡ 0 → IsPending t (change start now) held frames → now.sent ≡ append_datagrams start.sent (datagrams_of t held.pack frames)
+    → held.frames ≡ 0 → IsPending t (change start now) held frames → now.sends ≡ append_datagrams start.sends (datagrams_of t held.pack frames)
 sent_all-none t start now held frames none pending =
     let is = pending.is_out in
     let empty : pending.waiting ≡ [] = none_left pending.waiting (omega (arith, pending.count, none)) in
-    is.sent ∙ ap (λ l. append_datagrams start.sent (datagrams_of t held.pack l)) (sym (is.parts ∙ ap (λ l. pending.out ++ l) empty ∙ append-nil pending.out))
+    pending.sent ∙ ap (λ l. append_datagrams start.sends (datagrams_of t held.pack l)) (sym (is.parts ∙ ap (λ l. pending.out ++ l) empty ∙ append-nil pending.out))
 
--- they didn't go out
+-- their send failed
 pub IsCut-last : (t : TicketFields) (start now after : OutletTold) (held : DatagramState) (frames : List FrameValue)
-    → 0 < held.frames → after.sent ≡ now.sent → IsPending t (change start now) held frames → IsCut t held.pack (change start after) frames
-IsCut-last t start now after held frames waits kept pending =
+    → 0 < held.frames → after.sends ≡ now.sends ++ Failed ∷ [] → IsPending t (change start now) held frames → IsCut t held.pack (change start after) frames
+IsCut-last t start now after held frames waits failed pending =
     let is = pending.is_out in record {
       out = pending.out;
       others = pending.waiting;
-      is_out = record { parts = is.parts; count = is.count; whole = is.whole; sent = kept ∙ is.sent };
+      is_out = record { parts = is.parts; count = is.count; whole = is.whole };
+      sent = failed ∙ ap (λ (l : List Send). l ++ Failed ∷ []) pending.sent;
       some = omega (arith, pending.count, waits);
     }
 
@@ -230,8 +225,8 @@ IsCut-more t pack outlet frames more cut =
         parts = ap (λ l. l ++ more) is.parts ∙ append_assoc cut.out cut.others more;
         count = is.count;
         whole = is.whole;
-        sent = is.sent;
       };
+      sent = cut.sent;
       some = omega (arith, cut.some, length-append cut.others more);
     }
 
@@ -250,13 +245,13 @@ SentPrefix-cut t pack outlet frames end some cut =
     ∙ append_assoc first (datagrams_of t pack cut.others) end in (
       length first,
       subst (λ l. length first < length l) (sym list) (omega (arith, length-append first then_, length-append (datagrams_of t pack cut.others) end, some_datagrams t pack cut.others some cut.some)),
-      is.sent ∙ ap (append_datagrams outlet.old.sent) (sym (ap (take (length first)) list ∙ take_front first then_)),
+      cut.sent ∙ ap (append_failing outlet.old.sends) (sym (ap (take (length first)) list ∙ take_front first then_)),
     )
 
--- all but the last one were
-pub SentPrefix-last : (outlet : Change OutletTold) (datagrams : List (List ℕ)) (last : List ℕ) → outlet.new.sent ≡ append_datagrams outlet.old.sent datagrams → SentPrefix outlet (datagrams ++ last ∷ [])
+-- all but the last one were, and its send failed
+pub SentPrefix-last : (outlet : Change OutletTold) (datagrams : List (List ℕ)) (last : List ℕ) → outlet.new.sends ≡ append_failing outlet.old.sends datagrams → SentPrefix outlet (datagrams ++ last ∷ [])
 SentPrefix-last outlet datagrams last sent = (
   length datagrams,
   omega (arith, length-append datagrams (last ∷ [])),
-  sent ∙ ap (append_datagrams outlet.old.sent) (sym (take_front datagrams (last ∷ []))),
+  sent ∙ ap (append_failing outlet.old.sends) (sym (take_front datagrams (last ∷ []))),
 )

@@ -3,7 +3,8 @@ use Rattle.std.proofs.Common.{◌≡◌, ℕ, ◌+◌, ◌*◌, ◌^◌, ◌<◌
 use Rattle.std.specs.Prelude.{All}
 use Rattle.std.specs.Int.{div_ceil}
 use Rattle.kk_outside.specs.Change.{Change, change}
-use Rattle.kk_outside.specs.Outlet.{OutletTold, append_datagrams}
+use Rattle.kk_outside.specs.Outlet.{OutletTold, Send, Failed, append_datagrams}
+use Rattle.kk_outside.proofs.Taken.{append_datagrams-append}
 use Rattle.kk_code.specs.Codeword.{Parameters, IsInRange, codeword, width}
 use Rattle.kk_code.specs.Ticket.{TicketFields, generations}
 use Rattle.kk_code.proofs.Values.{codeword_below}
@@ -11,7 +12,7 @@ use Rattle.kk_assemble.specs.FileBits.{cut}
 use Rattle.kk_frame.specs.Frame.{End, frame_text}
 use Rattle.kk_sender.specs.SentFrames.{codeword_of, with_combinations, sent_rows, vectors, data_frames, datagrams_of, sent_datagrams}
 use Rattle.kk_sender.specs.Sending.{IsCut, SentPrefix}
-use Rattle.kk_sender.proofs.Datagrams.{IsCut-more, SentPrefix-cut, SentPrefix-last, append_datagrams-append, length-datagrams_of}
+use Rattle.kk_sender.proofs.Datagrams.{IsCut-more, SentPrefix-cut, SentPrefix-last, length-datagrams_of}
 use Rattle.kk_sender.proofs.Frames.{data_frames-more, data_frames-parts, length-data_frames, length-sent_rows, with_combinations-below}
 
 -- the rows of a generation as they are computed
@@ -50,25 +51,25 @@ prefix_at_end t file extra pack held word g outlet some same end cut =
 
 -- all rows went out
 pub rows_out : (t : TicketFields) (file : List ℕ) (extra pack held : ℕ) (word : ℕ → ℕ) (g : ℕ) (outlet : Change OutletTold) → held ≡ pack → g ≡ generations t
-    → outlet.new.sent ≡ append_datagrams outlet.old.sent (datagrams_of t held (data_frames (sent_rows t file extra word) g))
-    → outlet.new.sent ≡ append_datagrams outlet.old.sent (datagrams_of t pack (data_frames (sent_rows t file extra word) (generations t)))
+    → outlet.new.sends ≡ append_datagrams outlet.old.sends (datagrams_of t held (data_frames (sent_rows t file extra word) g))
+    → outlet.new.sends ≡ append_datagrams outlet.old.sends (datagrams_of t pack (data_frames (sent_rows t file extra word) (generations t)))
 rows_out t file extra pack held word g outlet same end out =
-    out ∙ ap (λ n. append_datagrams outlet.old.sent (datagrams_of t n (data_frames (sent_rows t file extra word) g))) same
-    ∙ ap (λ n. append_datagrams outlet.old.sent (datagrams_of t pack (data_frames (sent_rows t file extra word) n))) end
+    out ∙ ap (λ n. append_datagrams outlet.old.sends (datagrams_of t n (data_frames (sent_rows t file extra word) g))) same
+    ∙ ap (λ n. append_datagrams outlet.old.sends (datagrams_of t pack (data_frames (sent_rows t file extra word) n))) end
 
 -- and END
 pub all_out : (t : TicketFields) (file : List ℕ) (extra pack : ℕ) (word : ℕ → ℕ) (start now after : OutletTold)
-    → now.sent ≡ append_datagrams start.sent (datagrams_of t pack (data_frames (sent_rows t file extra word) (generations t)))
-    → after.sent ≡ append_datagrams now.sent (frame_text t End ∷ []) → after.sent ≡ append_datagrams start.sent (sent_datagrams t file extra pack word)
+    → now.sends ≡ append_datagrams start.sends (datagrams_of t pack (data_frames (sent_rows t file extra word) (generations t)))
+    → after.sends ≡ append_datagrams now.sends (frame_text t End ∷ []) → after.sends ≡ append_datagrams start.sends (sent_datagrams t file extra pack word)
 all_out t file extra pack word start now after rows end =
-    end ∙ ap (λ s. append_datagrams s (frame_text t End ∷ [])) rows ∙ append_datagrams-append start.sent _ (frame_text t End ∷ [])
+    end ∙ ap (λ s. append_datagrams s (frame_text t End ∷ [])) rows ∙ append_datagrams-append start.sends _ (frame_text t End ∷ [])
 
--- or END didn't
+-- or its send failed
 pub end_unsent : (t : TicketFields) (file : List ℕ) (extra pack : ℕ) (word : ℕ → ℕ) (start now after : OutletTold)
-    → now.sent ≡ append_datagrams start.sent (datagrams_of t pack (data_frames (sent_rows t file extra word) (generations t)))
-    → after.sent ≡ now.sent → SentPrefix (change start after) (sent_datagrams t file extra pack word)
-end_unsent t file extra pack word start now after rows kept =
-    SentPrefix-last (change start after) (datagrams_of t pack (data_frames (sent_rows t file extra word) (generations t))) (frame_text t End) (kept ∙ rows)
+    → now.sends ≡ append_datagrams start.sends (datagrams_of t pack (data_frames (sent_rows t file extra word) (generations t)))
+    → after.sends ≡ now.sends ++ Failed ∷ [] → SentPrefix (change start after) (sent_datagrams t file extra pack word)
+end_unsent t file extra pack word start now after rows failed =
+    SentPrefix-last (change start after) (datagrams_of t pack (data_frames (sent_rows t file extra word) (generations t))) (frame_text t End) (failed ∙ ap (λ (l : List Send). l ++ Failed ∷ []) rows)
 
 -- ---- how much is sent
 

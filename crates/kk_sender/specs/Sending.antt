@@ -1,7 +1,7 @@
 -- Frames on their way to an outlet, in datagrams.
 use Rattle.std.specs.Prelude.{◌≡◌, ℕ, ◌*◌, ◌<◌, List, ◌++◌, length, take}
 use Rattle.kk_outside.specs.Change.{Change}
-use Rattle.kk_outside.specs.Outlet.{OutletTold, append_datagrams}
+use Rattle.kk_outside.specs.Outlet.{OutletTold, append_datagrams, append_failing}
 use Rattle.kk_code.specs.Ticket.{TicketFields}
 use Rattle.kk_frame.specs.Frame.{FrameValue}
 use Rattle.kk_sender.specs.SentFrames.{text_of, datagrams_of}
@@ -12,29 +12,30 @@ pub record DatagramState : Type 0 where
   pub frames : ℕ
   pub bytes : List ℕ
 
--- The first of these frames went out, in datagrams of `pack`, and the others did not.
-pub record IsOut (t : TicketFields) (pack : ℕ) (outlet : Change OutletTold) (frames out others : List FrameValue) : Type 0 where
+-- The first of these frames fill datagrams of `pack`, and the others come after them.
+pub record IsOut (pack : ℕ) (frames out others : List FrameValue) : Type 0 where
   pub parts : frames ≡ out ++ others
   pub count : ℕ
   pub whole : length out ≡ count * pack
-  pub sent : outlet.new.sent ≡ append_datagrams outlet.old.sent (datagrams_of t pack out)
 
 -- All of these frames went out except for the last ones, which the datagram has.
 pub record IsPending (t : TicketFields) (outlet : Change OutletTold) (datagram : DatagramState) (frames : List FrameValue) : Type 0 where
   pub out : List FrameValue
   pub waiting : List FrameValue
-  pub is_out : IsOut t datagram.pack outlet frames out waiting
+  pub is_out : IsOut datagram.pack frames out waiting
+  pub sent : outlet.new.sends ≡ append_datagrams outlet.old.sends (datagrams_of t datagram.pack out)
   pub bytes : datagram.bytes ≡ text_of t waiting
   pub count : datagram.frames ≡ length waiting
 
--- Some of these frames didn't go out, since the outlet failed.
+-- Some of these frames didn't go out, since the outlet failed; the send that failed was the last.
 pub record IsCut (t : TicketFields) (pack : ℕ) (outlet : Change OutletTold) (frames : List FrameValue) : Type 0 where
   pub out : List FrameValue
   pub others : List FrameValue
-  pub is_out : IsOut t pack outlet frames out others
+  pub is_out : IsOut pack frames out others
+  pub sent : outlet.new.sends ≡ append_failing outlet.old.sends (datagrams_of t pack out)
   pub some : 0 < length others
 
--- fewer of these datagrams were sent than there are, from the front
+-- fewer of these datagrams were sent than there are, from the front; then a send failed, and it was the last
 abbrev pub SentPrefix : Change OutletTold → List (List ℕ) → Type 0
 SentPrefix outlet datagrams =
-    (n : ℕ) × (n < length datagrams) × (outlet.new.sent ≡ append_datagrams outlet.old.sent (take n datagrams))
+    (n : ℕ) × (n < length datagrams) × (outlet.new.sends ≡ append_failing outlet.old.sends (take n datagrams))

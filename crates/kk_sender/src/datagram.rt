@@ -85,7 +85,7 @@ impl Datagram {
     pub(crate) fn finish<O: Outlet>(self, outlet: &mut O) -> Result<(), Failed>
         ensures all { OnOk result ((start : OutletTold) (frames : List FrameValue) (t : TicketFields)
             → IsPending t (change start (O.told outlet.old)) self frames
-            → (O.told outlet.new).sent ≡ append_datagrams start.sent (datagrams_of t self.pack frames)) }
+            → (O.told outlet.new).sends ≡ append_datagrams start.sends (datagrams_of t self.pack frames)) }
         ensures cut { OnErr result ((start : OutletTold) (frames : List FrameValue) (t : TicketFields)
             → IsPending t (change start (O.told outlet.old)) self frames
             → IsCut t self.pack (change start (O.told outlet.new)) frames) }

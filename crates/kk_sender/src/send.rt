@@ -5,7 +5,7 @@ ghost use Rattle.kk_rows.specs.Rows.{numbers};
 ghost use Rattle.kk_outside.specs.Causes.{CanCount, HasCause};
 ghost use Rattle.kk_outside.specs.Change.{change};
 ghost use Rattle.kk_outside.specs.Source.{SourceFailed, bytes_read};
-ghost use Rattle.kk_outside.specs.Outlet.{OutletTold, OutletFailed, append_datagrams};
+ghost use Rattle.kk_outside.specs.Outlet.{OutletTold, OutletFailed, Failed as SendFailed, append_datagrams};
 ghost use Rattle.kk_code.specs.Codeword.{width};
 ghost use Rattle.kk_code.specs.Ticket.{TicketFields, generations};
 ghost use Rattle.kk_frame.specs.Frame.{FrameValue, End, frame_text};
@@ -68,7 +68,7 @@ pub fn send_all<S: Source, R: Rng, O: Outlet>(
         → IfSome (S.told source.old).left (λ bytes. LeavesAfterLength ticket.now.length bytes (change (S.told source.old) (S.told source.new))) }
 
     // What was sent.
-    ensures sent { OnOk result ((O.told outlet.new).sent ≡ append_datagrams (O.told outlet.old).sent
+    ensures sent { OnOk result ((O.told outlet.new).sends ≡ append_datagrams (O.told outlet.old).sends
         (sent_datagrams ticket.now (bytes_read (change (S.told source.old) (S.told source.new))) extra pack (word_at (R.stream rng.old)))) }
     ensures frames { IfOk result (λ sent. sent.frames ≡ length (data_frames
         (sent_rows ticket.now (bytes_read (change (S.told source.old) (S.told source.new))) extra (word_at (R.stream rng.old))) (generations ticket.now)) + 1) }
@@ -129,7 +129,7 @@ fn send_file<R: Rng, O: Outlet>(
     requires extra { extra ≤ MAX_EXTRA }
     requires some { 1 ≤ pack }
     requires pack { pack ≤ MAX_DATAGRAM_FRAMES }
-    ensures sent { OnOk result ((O.told outlet.new).sent ≡ append_datagrams (O.told outlet.old).sent
+    ensures sent { OnOk result ((O.told outlet.new).sends ≡ append_datagrams (O.told outlet.old).sends
         (sent_datagrams ticket.now file.now extra pack (word_at (R.stream rng.old)))) }
     ensures prefix { OnErr result (SentPrefix (change (O.told outlet.old) (O.told outlet.new))
         (sent_datagrams ticket.now file.now extra pack (word_at (R.stream rng.old)))) }
@@ -178,8 +178,8 @@ fn push_rows<O: Outlet>(
 
 /// Sends END.
 fn send_end<O: Outlet>(ticket: &Ticket, outlet: &mut O) -> Result<(), Failed>
-    ensures sent { OnOk result ((O.told outlet.new).sent ≡ append_datagrams (O.told outlet.old).sent (frame_text ticket.now End ∷ [])) }
-    ensures unsent { OnErr result ((O.told outlet.new).sent ≡ (O.told outlet.old).sent) }
+    ensures sent { OnOk result ((O.told outlet.new).sends ≡ append_datagrams (O.told outlet.old).sends (frame_text ticket.now End ∷ [])) }
+    ensures failed { OnErr result ((O.told outlet.new).sends ≡ (O.told outlet.old).sends ++ SendFailed ∷ []) }
     ensures cause { HasCause (O.told outlet.old).faults (O.told outlet.new).faults result }
 {
     let mut text = [0; FRAME_BYTES];

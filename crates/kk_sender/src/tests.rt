@@ -22,7 +22,7 @@ fn send_bytes<R: Rng, O: Outlet>(
     outlet: &mut O,
 ) -> Option<u64>
     requires { vec_len bytes ≡ ticket.now.length }
-    ensures { IfSome result (λ _. (O.told outlet.new).sent ≡ append_datagrams (O.told outlet.old).sent
+    ensures { IfSome result (λ _. (O.told outlet.new).sends ≡ append_datagrams (O.told outlet.old).sends
         (sent_datagrams ticket.now bytes.items 0 32 (word_at (R.stream rng.old)))) }
 {
     let mut source = MemorySource::new(bytes, 4096, Vec::new(alloc));

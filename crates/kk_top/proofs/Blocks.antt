@@ -2,23 +2,22 @@
 use Rattle.std.proofs.Common.{◌≡◌, ℕ, ◌+◌, ◌<◌, List, [], ◌++◌, length, take, Result, Ok, Err, refl, ap, sym, subst, ◌∙◌, arith, append_assoc, length-append}
 use Rattle.std.proofs.lemmas.List.{append-nil, take-append-le}
 use Rattle.std.proofs.Math.Seq.{take-append-add}
-use Rattle.std.specs.Io.KnownBytes.{append_known}
 use Rattle.std.specs.Prelude.{OnOk}
 use Rattle.kk_outside.specs.Change.{Change, change}
-use Rattle.kk_outside.specs.Sink.{SinkTold, Received, WritesAllTo}
-use Rattle.kk_outside.proofs.Known.{append_known-append_known, append_known-nil}
+use Rattle.kk_outside.specs.Sink.{SinkTold, append_bytes, append_failing, FailsWithin, WritesAllTo}
+use Rattle.kk_outside.proofs.Known.{append_bytes-nil, append_failing-append}
 use Rattle.kk_top.specs.Block.{IsPending, Goes, Adds}
 
--- less than all of a text is out
+-- the sink failed within a text
 abbrev pub IsCut : Change SinkTold → List ℕ → Type 0
-IsCut sink text = (n : ℕ) × (n < length text) × Received sink text n
+IsCut sink text = FailsWithin sink text
 
--- and so less than all of a longer one
+-- and so within a longer one
 pub IsCut-append : (sink : Change SinkTold) (text more : List ℕ) → IsCut sink text → IsCut sink (text ++ more)
 IsCut-append sink text more cut = (
   cut.0,
   omega (arith, cut.1, length-append text more),
-  cut.2 ∙ ap (append_known sink.old.written) (sym (take-append-le cut.0 text more (omega (arith, cut.1)))),
+  cut.2 ∙ ap (append_failing sink.old.written) (sym (take-append-le cut.0 text more (omega (arith, cut.1)))),
 )
 
 -- the write of the block failed
@@ -30,9 +29,9 @@ IsCut-write start old new block text pending failed =
       length out + n,
       omega (arith, failed.1, length-append out block),
       failed.2
-          ∙ ap (λ o. append_known o (take n block)) pending.written
-          ∙ append_known-append_known start.written out (take n block)
-          ∙ ap (append_known start.written) (sym (take-append-add out block n)),
+          ∙ ap (λ o. append_failing o (take n block)) pending.written
+          ∙ append_failing-append start.written out (take n block)
+          ∙ ap (append_failing start.written) (sym (take-append-add out block n)),
     )
 
 Goes-cut : {T E : Type 0} {e : E} (sink : Change SinkTold) (block text : List ℕ) → IsCut sink text → Goes {T = T} sink (Err e) block text
@@ -78,10 +77,10 @@ Added-after old now new held holding holds first second one two = λ start text 
 -- a text that went by way of a block from its beginning, and of which nothing waits
 pub WritesAllTo-added : {T E : Type 0} (old new : SinkTold) (holds : List ℕ) (result : Result T E) (text : List ℕ) → Adds old new [] holds result text → OnOk result (holds ≡ []) → WritesAllTo (change old new) result text
 WritesAllTo-added old new holds (Ok x) text adds empty =
-    let pending : IsPending (change old old) [] [] = record { out = []; parts = refl; written = sym (append_known-nil old.written) } in
+    let pending : IsPending (change old old) [] [] = record { out = []; parts = refl; written = sym (append_bytes-nil old.written) } in
     let all = (adds old [] pending).all in
     let whole : all.out ≡ text = sym (append-nil all.out) ∙ ap (λ l. all.out ++ l) (sym empty) ∙ sym all.parts in
-    record { all = all.written ∙ ap (append_known old.written) whole; part = tt }
+    record { all = all.written ∙ ap (append_bytes old.written) whole; part = tt }
 WritesAllTo-added old new holds (Err e) text adds empty =
-    let pending : IsPending (change old old) [] [] = record { out = []; parts = refl; written = sym (append_known-nil old.written) } in
+    let pending : IsPending (change old old) [] [] = record { out = []; parts = refl; written = sym (append_bytes-nil old.written) } in
     record { all = tt; part = (adds old [] pending).part }

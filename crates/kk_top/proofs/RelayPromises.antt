@@ -2,7 +2,9 @@
 use Rattle.std.proofs.Common.{◌≡◌, ◌⊎◌, inl, inr, ℕ, List, [], ◌∷◌, length, map, Some, refl, ap, sym, subst, ◌∙◌, arith}
 use Rattle.std.specs.Prelude.{is_some, slice_get, slice_index_or, slice_set}
 use Rattle.std.proofs.lemmas.Bool.{false≢true}
+use Rattle.std.proofs.lemmas.List.{length-map}
 use Rattle.std.proofs.lemmas.Option.{same_Some}
+use Rattle.std.proofs.Math.ListN.{length-set}
 use Rattle.kk_outside.specs.Change.{Change, change}
 use Rattle.kk_outside.specs.Gate.{GateTold}
 use Rattle.kk_outside.specs.Outlet.{OutletTold}
@@ -55,7 +57,8 @@ relays_out_of_range words cause status gates report outlet why caused is tells g
   ticket_refused = λ _. (λ e. absurd (omega (arith, e, is)), λ none. absurd (ticket_or_none Relay words why.order.ticket none.0 (names_ticket words why.order why.asks) none.1));
   range_refused = λ _. (λ _. inl (cause, why), λ _. is);
   refused = λ _. (cause, caused, record { tells = tells; given = given });
-  runs = λ order gate orders. absurd (kept_or_broken words order cause orders why);
+  runs = λ order orders. absurd (kept_or_broken words order cause orders why);
+  same_gates = refl;
 }
 
 -- the words are refused
@@ -73,7 +76,8 @@ relays_refused words Words status gates report outlet why is given = record {
     ],
   );
   refused = λ _. (Words, why, record { tells = is; given = given });
-  runs = λ order gate orders. absurd (why orders.asks.request orders.asks.asked);
+  runs = λ order orders. absurd (why orders.asks.request orders.asks.asked);
+  same_gates = refl;
 }
 relays_refused words (Ticket wrong) status gates report outlet why is given = record {
   words_refused = λ _. (λ e. absurd (omega (arith, e, is)), λ none. absurd (none why.request why.asked));
@@ -86,7 +90,8 @@ relays_refused words (Ticket wrong) status gates report outlet why is given = re
     ],
   );
   refused = λ _. (Ticket wrong, why, record { tells = is; given = given });
-  runs = λ order gate orders. absurd (ticket_or_none Relay words order.ticket wrong (names_ticket words order orders.asks) why);
+  runs = λ order orders. absurd (ticket_or_none Relay words order.ticket wrong (names_ticket words order orders.asks) why);
+  same_gates = refl;
 }
 relays_refused words Seed status gates report outlet why is given = relays_out_of_range words Seed status gates report outlet why why is is given
 relays_refused words (Range name) status gates report outlet why is given = relays_out_of_range words (Range name) status gates report outlet why why is is given
@@ -99,7 +104,8 @@ relays_refused words Memory status gates report outlet why is given = record {
   ticket_refused = λ other. absurd (other is);
   range_refused = λ other. absurd (other is);
   refused = λ _. (Memory, tt, record { tells = is; given = given });
-  runs = λ order gate orders first other. absurd (other is);
+  runs = λ order orders some other. absurd (other is);
+  same_gates = refl;
 }
 
 -- no gate is there
@@ -111,20 +117,18 @@ relays_unheard words order status gates report outlet orders none is given = rec
   ticket_refused = λ _. (λ e. absurd (omega (arith, e, is)), λ nothing. absurd (ticket_or_none Relay words order.ticket nothing.0 (names_ticket words order orders.asks) nothing.1));
   range_refused = λ _. (λ _. inr (order, orders, none), λ _. is);
   refused = λ _. (Listen, (order, orders, none), record { tells = is; given = given });
-  runs = λ other gate others first. absurd (no_gate gates gate.old first.0 none);
+  runs = λ other others some. absurd (omega (arith, some, none));
+  same_gates = refl;
 }
 
 -- ---- over a gate
-
-same_gate : (a b : Change GateTold) → a.old ≡ b.old → a.new ≡ b.new → a ≡ b
-same_gate a b old new = λ i. change (old i) (new i)
 
 ran_before : (status : ℕ) → (status ≡ 4) ⊎ ((status ≡ 7) ⊎ RanThrough status) → EndedAtOnce status → ⊥
 ran_before status is before = grind arith
 
 pub relays_ran : (words : List (List ℕ)) (order : Order) (status : ℕ) (gates : Change (List GateTold)) (gate : Change GateTold) (report : Change SinkTold) (outlet : Change OutletTold)
-    → OrdersRelaying words order → FirstIs gates gate → RelaysBy order gate report outlet status → Relays words gates report outlet status
-relays_ran words order status gates gate report outlet orders first by = record {
+    → OrdersRelaying words order → FirstIs gates gate → length gates.new ≡ length gates.old → RelaysBy order gate report outlet status → Relays words gates report outlet status
+relays_ran words order status gates gate report outlet orders first same by = record {
   words_refused = λ _. (λ e. absurd (ran_before status by.no_other_status (inl e)), λ none. absurd (none orders.asks.request orders.asks.asked));
   ticket_refused = λ _. (λ e. absurd (ran_before status by.no_other_status (inr (inl e))), λ none. absurd (ticket_or_none Relay words order.ticket none.0 (names_ticket words order orders.asks) none.1));
   range_refused = λ _. (
@@ -135,10 +139,8 @@ relays_ran words order status gates gate report outlet orders first by = record 
     ],
   );
   refused = λ before. absurd (ran_before status by.no_other_status before);
-  runs = λ other again others firsts _.
-      subst (λ (o : Order). RelaysBy o again report outlet status) (same_order words order other orders.asks others.asks)
-      (subst (λ (g : Change GateTold). RelaysBy order g report outlet status)
-      (same_gate gate again (same_Some _ _ (sym first.0 ∙ firsts.0)) (same_Some _ _ (sym first.1 ∙ firsts.1))) by);
+  runs = λ other others _ _. (gate, first, subst (λ (o : Order). RelaysBy o gate report outlet status) (same_order words order other orders.asks others.asks) by);
+  same_gates = same;
 }
 
 -- the first of some gates, and what is put in its place
@@ -146,3 +148,7 @@ pub first_is : {A : Type 0} (told : A → GateTold) (items : List A) (old new : 
     → FirstIs (change (map told items) (map told (slice_set items 0 new))) (change (told old) (told new))
 first_is told [] old new some was = absurd (some refl)
 first_is told (one ∷ items) old new some was = (ap Some (ap told (sym was)), refl)
+
+-- there are as many then
+pub as_many : {A : Type 0} (told : A → GateTold) (items : List A) (new : A) → length (map told (slice_set items 0 new)) ≡ length (map told items)
+as_many told items new = length-map (slice_set items 0 new) told ∙ length-set items 0 new ∙ sym (length-map items told)

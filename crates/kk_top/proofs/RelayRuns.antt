@@ -45,7 +45,7 @@ lines_by order words events gate innovative sent are is_gate is_innovative is_se
 pub relays_done : (order : Order) (gate : Change GateTold) (report : Change SinkTold) (outlet : Change OutletTold) (status : ℕ)
     → gate.new.faults ≡ gate.old.faults → outlet.new.faults ≡ outlet.old.faults
     → AsksUpToStop order.ticket order.limits gate → StopsThere order.ticket order.limits gate
-    → outlet.new.sent ≡ append_datagrams outlet.old.sent (ordered_list order (events_told gate))
+    → outlet.new.sends ≡ append_datagrams outlet.old.sends (ordered_list order (events_told gate))
     → RanThrough status → (CanCount report.old.faults → (status ≡ 5) ↔ SinkFailed report)
     → WasGiven (concluded_text 0 (relay_lines order (events_told gate))) report
     → RelaysBy order gate report outlet status
@@ -68,7 +68,7 @@ relays_done order gate report outlet status gate_kept outlet_kept asked stop sen
 pub relays_gate_failed : (order : Order) (gate : Change GateTold) (report : Change SinkTold) (outlet : Change OutletTold) (status : ℕ)
     → Rose gate.old.faults gate.new.faults → outlet.new.faults ≡ outlet.old.faults
     → AsksUpToStop order.ticket order.limits gate → StopsThere order.ticket order.limits gate
-    → outlet.new.sent ≡ append_datagrams outlet.old.sent (ordered_list order (events_told gate))
+    → outlet.new.sends ≡ append_datagrams outlet.old.sends (ordered_list order (events_told gate))
     → status ≡ 4 → WasGiven (refusal_text Input) report
     → RelaysBy order gate report outlet status
 relays_gate_failed order gate report outlet status rose outlet_kept asked stop sent is given = record {

@@ -329,7 +329,7 @@ sends_failed words order fault.Outlet status s0 s1 o0 o1 report orders sending i
 
 -- all was sent
 pub sends_done : (words : List (List ℕ)) (order : Order) (sent : Sent) (told status : ℕ) (source : Change SourceTold) (outlet : Change OutletTold) (report : Change SinkTold)
-    → OrdersSending words order → IsSending order source outlet (Ok sent) → outlet.new.sent ≡ append_datagrams outlet.old.sent (ordered_datagrams order (bytes_read source))
+    → OrdersSending words order → IsSending order source outlet (Ok sent) → outlet.new.sends ≡ append_datagrams outlet.old.sends (ordered_datagrams order (bytes_read source))
     → WasGiven (concluded_text 0 (sent_line order (bytes_read source))) report → told ≡ 0 → IsStatusOf told status → (CanCount report.old.faults → told ≡ 0 → (status ≡ 5) ↔ SinkFailed report)
     → Sends words source report outlet status
 sends_done words order sent told status source outlet report orders sending went given done same five =
@@ -348,7 +348,7 @@ sends_done words order sent told status source outlet report orders sending went
       read_to_length = λ other others _ _. by_order words (λ o. ReadsToLength o.ticket.length source) order other orders others (sending.read (never fault.Alloc) (never fault.Read));
       failed_within_length = λ other others e. absurd (not_through 4 status refl e through);
       remainder = λ other others _ _. by_order words (λ o. IfSome source.old.left (λ bytes. LeavesAfterLength o.ticket.length bytes source)) order other orders others (sending.left (never fault.Alloc) (never fault.Read));
-      sent = λ other others _. by_order words (λ o. outlet.new.sent ≡ append_datagrams outlet.old.sent (ordered_datagrams o (bytes_read source))) order other orders others went;
+      sent = λ other others _. by_order words (λ o. outlet.new.sends ≡ append_datagrams outlet.old.sends (ordered_datagrams o (bytes_read source))) order other orders others went;
       prefix = λ other others e. absurd (not_through 7 status refl e through);
       refused = λ unsent. absurd (unsent through);
       reported = λ other others _. by_order words (λ o. WasGiven (concluded_text 0 (sent_line o (bytes_read source))) report) order other orders others given;

@@ -17,7 +17,7 @@ use Rattle.kk_frame.specs.declared.gate_count.Ended.{Ended}
 use Rattle.kk_frame.specs.declared.gate_count.Ended.TheVariants as ended
 use Rattle.kk_frame.specs.declared.gate_count.GateCount.{GateCount}
 use Rattle.kk_frame.specs.Datagram.{data_frames}
-use Rattle.kk_frame.specs.Events.{all_readings, end_with, counts_over, stop, taken, counts}
+use Rattle.kk_frame.specs.Events.{all_readings, end_with, counts_over, stop, taken, counts, overs_to}
 use Rattle.kk_frame.specs.Intake.{IntakeState, IsIntake, IsAfter, is_running, calls_left}
 use Rattle.kk_frame.proofs.Intakes.{ended_tells, ended_stops, taken-none}
 use Rattle.kk_machine.specs.declared.call.Entry.{Entry}
@@ -223,13 +223,17 @@ few_inserts t plan gate s calls totals small intake w are =
 
 -- ---- causes
 
+overs_none : (o : Option Ended) → is_none o ≡ true → overs_to o ≡ 0
+overs_none None h = refl
+overs_none (Some e) h = absurd (true≢false (sym h))
+
 pub FaultCause-start : (now : GateTold) (s : IntakeState) → is_running s ≡ true → FaultCause (change now now) s.counts
-FaultCause-start now s on = record { rose = λ is. absurd (true≢false (sym on ∙ ap is_none is)); kept = λ no. refl }
+FaultCause-start now s on = record { rose = λ is. absurd (true≢false (sym on ∙ ap is_none is)); kept = λ no. refl; over = omega (arith, overs_none s.counts.ended on) }
 
 pub FaultCause-more : (start now end : GateTold) (s s' : IntakeState) → is_running s ≡ true → FaultCause (change start now) s.counts → FaultCause (change now end) s'.counts → FaultCause (change start end) s'.counts
 FaultCause-more start now end s s' on before one =
     let same : now.faults ≡ start.faults = before.kept (λ is. true≢false (sym on ∙ ap is_none is)) in
-    record { rose = λ is. subst (λ (n : ℕ). Rose n end.faults) same (one.rose is); kept = λ no. one.kept no ∙ same }
+    record { rose = λ is. subst (λ (n : ℕ). Rose n end.faults) same (one.rose is); kept = λ no. one.kept no ∙ same; over = omega (arith, one.over, before.over, overs_none s.counts.ended on) }
 
 fault_or_not : (o : Option Ended) → (o ≡ Some ended.Fault) ⊎ (o ≡ Some ended.Fault → ⊥)
 fault_or_not None = inr (λ is. cc is)

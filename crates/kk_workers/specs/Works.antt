@@ -11,7 +11,7 @@ use Rattle.kk_frame.specs.declared.frame.TheConstants.{FRAME_BYTES}
 use Rattle.kk_frame.specs.declared.limits.Limits.{Limits}
 use Rattle.kk_frame.specs.declared.gate_count.Ended.TheVariants.{Fault}
 use Rattle.kk_frame.specs.declared.gate_count.GateCount.{GateCount}
-use Rattle.kk_frame.specs.Events.{stop, taken, counts}
+use Rattle.kk_frame.specs.Events.{stop, taken, counts, overs_to}
 use Rattle.kk_machine.specs.declared.call.Call.{Call}
 use Rattle.kk_machine.specs.declared.call.Call.TheVariants.{Insert, Freeze, Peek}
 use Rattle.kk_machine.specs.declared.call.Entry.{Entry}
@@ -83,7 +83,9 @@ pub record Worked (t : TicketFields) (plan : Plan) (gate : Change GateTold) (cou
   pub inserts : InsertsFor plan.goal calls
   pub below : AreBelow (generations t) calls
 
--- It ended by a fault exactly where the gate's count rose, as far as a count at its last value can show that.
+-- It ended by a fault exactly where the gate's count rose, as far as a count at its last value can show that. The gate
+-- answered that its events are over once where it ended so, and else never.
 pub record FaultCause (gate : Change GateTold) (counted : GateCount) : Type 0 where
   pub rose : counted.ended ≡ Some Fault → Rose gate.old.faults gate.new.faults
   pub kept : (counted.ended ≡ Some Fault → ⊥) → gate.new.faults ≡ gate.old.faults
+  pub over : gate.new.overs ≡ gate.old.overs + overs_to counted.ended

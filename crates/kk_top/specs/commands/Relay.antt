@@ -1,5 +1,5 @@
 -- `relay`: the data frames of a gate come in, and combinations of their rows go out.
-use Rattle.std.specs.Prelude.{◌≡◌, ◌⊎◌, ◌↔◌, ℕ, nat_lt, ◌||◌, if◌then◌else◌, List, ◌++◌, length, codes, slice_get, sum_by, Option, Some, None, IfSome}
+use Rattle.std.specs.Prelude.{◌≡◌, ◌⊎◌, ◌↔◌, ℕ, ◌<◌, nat_lt, ◌||◌, if◌then◌else◌, List, ◌++◌, length, codes, slice_get, sum_by, Option, Some, None, IfSome}
 use Rattle.std.specs.Fmt.{decimal}
 use Rattle.kk_outside.specs.Causes.{CanCount}
 use Rattle.kk_outside.specs.Change.{Change}
@@ -118,7 +118,7 @@ pub record RelaysBy (order : Order) (gate : Change GateTold) (report : Change Si
   pub asked : AsksUpToStop order.ticket order.limits gate
   pub stop : (status ≡ 7 → ⊥) → StopsThere order.ticket order.limits gate
   -- What was sent: the relay's list, and after a fault of the outlet less, from its front.
-  pub sent : (status ≡ 7 → ⊥) → outlet.new.sent ≡ append_datagrams outlet.old.sent (ordered_list order (events_told gate))
+  pub sent : (status ≡ 7 → ⊥) → outlet.new.sends ≡ append_datagrams outlet.old.sends (ordered_list order (events_told gate))
   pub cut_short : status ≡ 7 → IsCutShort outlet (ordered_list order (events_told gate))
   pub cut_short_of_all : status ≡ 7 → IfSome gate.old.left (λ events. IsCutShort outlet (ordered_list order events))
   -- What the report's sink holds: at 5 less than all of that.
@@ -149,5 +149,7 @@ pub record Relays (words : List (List ℕ)) (gates : Change (List GateTold)) (re
   pub ticket_refused : (status ≡ 8 → ⊥) → ((status ≡ 2) ↔ ((fault : TicketFault) × NamesNoTicketFor Relay words fault))
   pub range_refused : (status ≡ 8 → ⊥) → ((status ≡ 11) ↔ (((cause : Refusal) × BreaksRange words cause) ⊎ ((order : Order) × OrdersRelaying words order × (length gates.old ≡ 0))))
   pub refused : EndedAtOnce status → (cause : Refusal) × IsCauseOf words (length gates.old) cause × IsRefused cause status report
-  -- What the run over the first gate comes to.
-  pub runs : (order : Order) (gate : Change GateTold) → OrdersRelaying words order → FirstIs gates gate → (status ≡ 8 → ⊥) → RelaysBy order gate report outlet status
+  -- What the run over the first gate comes to; it is still the first of as many.
+  pub runs : (order : Order) → OrdersRelaying words order → 0 < length gates.old → (status ≡ 8 → ⊥)
+      → (gate : Change GateTold) × FirstIs gates gate × RelaysBy order gate report outlet status
+  pub same_gates : length gates.new ≡ length gates.old

@@ -129,7 +129,7 @@ pub record Sends (words : List (List ℕ)) (source : Change SourceTold) (report 
   -- The same where the source tells the bytes that it has left.
   pub remainder : (order : Order) → OrdersSending words order → (status ≡ 8 → ⊥) → (status ≡ 4 → ⊥) → IfSome source.old.left (λ bytes. LeavesAfterLength order.ticket.length bytes source)
   -- What was sent: all datagrams, or fewer of them, from the front, where the outlet failed.
-  pub sent : (order : Order) → OrdersSending words order → RanThrough status → outlet.new.sent ≡ append_datagrams outlet.old.sent (ordered_datagrams order (bytes_read source))
+  pub sent : (order : Order) → OrdersSending words order → RanThrough status → outlet.new.sends ≡ append_datagrams outlet.old.sends (ordered_datagrams order (bytes_read source))
   pub prefix : (order : Order) → OrdersSending words order → status ≡ 7 → SentPrefix outlet (ordered_datagrams order (bytes_read source))
   -- What the report's sink holds: at 5 less than all of that.
   pub refused : (RanThrough status → ⊥) → (cause : Refusal) × IsCauseOf words source outlet cause × IsRefused cause status report

@@ -23,8 +23,8 @@ returns-in-Ok-sent-clause-sent g c =
     let len : length c.deref_mut.result.now - 1 ≡ t.length = omega (arith, c.deref_mut.ensures.len, c.in-Ok.ensures) in
     let file = the_file t.length c.in-Ok.room.len c.read_file.new.room c.in-Ok.room.items c.deref.result.now _ c.deref.ensures.value c.in-Ok.ensures (omega (arith, c.read_file.auto.room, c.deref_mut.ensures.len, c.in-Ok.ensures)) (rw len at c.in_ok-read_file.ensures.file) in
     c.in-Ok-sent.ensures.sent
-    ∙ ap (λ n. append_datagrams (told c.args.outlet.now).sent (sent_datagrams t (take n c.deref.result.now) c.args.extra c.args.pack word)) c.length.ensures.length
-    ∙ ap (λ f. append_datagrams (told c.args.outlet.now).sent (sent_datagrams t f c.args.extra c.args.pack word)) file
+    ∙ ap (λ n. append_datagrams (told c.args.outlet.now).sends (sent_datagrams t (take n c.deref.result.now) c.args.extra c.args.pack word)) c.length.ensures.length
+    ∙ ap (λ f. append_datagrams (told c.args.outlet.now).sends (sent_datagrams t f c.args.extra c.args.pack word)) file
 
 pub returns-in-Ok-sent-clause-frames : goal.returns-in-Ok-sent-clause-frames
 returns-in-Ok-sent-clause-frames g c =

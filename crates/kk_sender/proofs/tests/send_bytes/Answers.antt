@@ -13,4 +13,4 @@ returns-in-Ok g c =
     let taken = (c.in-Ok.ensures.remainder (λ e. cc e) (λ e. cc e)).taken in
     let left = ap (λ (s : SourceState). take (t.length + 1) s.left) c.new-source.ensures in
     let all = take_all (t.length + 1) bytes (omega (arith, c.requires, c.args.bytes.ok.0)) in
-    c.in-Ok.ensures.sent ∙ ap (λ f. append_datagrams (g.O.Outlet.told c.args.outlet.now).sent (sent_datagrams t f 0 32 (word_at (g.R.Rng.stream c.args.rng.now)))) (taken ∙ left ∙ all)
+    c.in-Ok.ensures.sent ∙ ap (λ f. append_datagrams (g.O.Outlet.told c.args.outlet.now).sends (sent_datagrams t f 0 32 (word_at (g.R.Rng.stream c.args.rng.now)))) (taken ∙ left ∙ all)

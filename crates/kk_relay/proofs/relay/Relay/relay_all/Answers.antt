@@ -5,7 +5,7 @@ use Rattle.kk_frame.specs.declared.gate_count.Ended.TheVariants as ended
 use Rattle.kk_frame.specs.declared.gate_count.GateCount.{GateCount}
 use Rattle.kk_relay.specs.Relaying.{is_failure}
 use Rattle.kk_relay.specs.Progress.{frames_of}
-use Rattle.kk_relay.proofs.Outcomes.{Run-start, Run-next, Run-few, asks, without_end_of_all, cut_told, cut_of_all, ends_short, of_datagram}
+use Rattle.kk_relay.proofs.Outcomes.{Run-start, Run-next, Run-few, asks, stops_there, lacks_end, without_end_of_all, cut_told, cut_of_all, ends_short, of_datagram}
 use Rattle.kk_relay.proofs.relay.Relay.relay_all.Goals as goal
 use Rattle.kk_relay.proofs.relay.Relay.relay_all.Goals.{After-relay_frames}
 
@@ -92,7 +92,7 @@ returns-in_default-send_frame-clause-cut_short_of_all g c = λ is.
     let loop = c.loop-buf in
     without_end_of_all c.args.ticket.now c.args.limits.now c.args.rate (g.R.Rng.stream c.args.rng.now) (change (g.G.Gate.told c.args.gate.now) (g.G.Gate.told loop.gate)) (change (outlet c.args.outlet.now) (outlet loop.outlet)) loop.intake loop.self (g.R.Rng.stream loop.rng) loop.sent (outlet c.send_frame.new.outlet) loop.invariant (sym c.runs.ensures.running ∙ c.loop-buf-test.false)
     (ap is_failure (ap (λ (n : GateCount). n.ended) (sym c.counts-counts.ensures.counts)) ∙ sym c.has_failed.ensures ∙ c.if-has_failed.false)
-    c.in_default-send_frame.ensures.sends.kept
+    c.in_default-send_frame.ensures.sends.failed
 
 pub returns-in_default-clause-generations : goal.returns-in_default-clause-generations
 returns-in_default-clause-generations g c =
@@ -100,3 +100,22 @@ returns-in_default-clause-generations g c =
     let run = c.loop-buf.invariant in
     let off = c.in_default.ensures.breaks_off (g.R.Rng.stream c.args.rng.now) run.frames (g.O.Outlet.told c.args.outlet.now) run.progress in
     ap length off.holds ∙ length-relay_after t (take off.count (run.frames ++ frames_of c.next_frames-frames.result)) ∙ sym (ap length c.requires.empty ∙ length-relay_after t [])
+
+pub returns-in_default-send_frame-clause-broken_off : goal.returns-in_default-send_frame-clause-broken_off
+returns-in_default-send_frame-clause-broken_off g c = λ is.
+    let outlet = g.O.Outlet.told in
+    let loop = c.loop-buf in
+    lacks_end c.args.ticket.now c.args.limits.now c.args.rate (g.R.Rng.stream c.args.rng.now) (change (g.G.Gate.told c.args.gate.now) (g.G.Gate.told loop.gate)) (change (outlet c.args.outlet.now) (outlet loop.outlet)) loop.intake loop.self (g.R.Rng.stream loop.rng) loop.sent loop.invariant (sym c.runs.ensures.running ∙ c.loop-buf-test.false) (outlet c.send_frame.new.outlet)
+    c.in_default-send_frame.ensures.sends.failed
+
+-- ---- the gate has ended
+
+pub returns-clause-asked : goal.returns-clause-asked
+returns-clause-asked g c =
+    let run = c.loop-buf.invariant in
+    asks c.args.ticket.now c.args.limits.now (change (g.G.Gate.told c.args.gate.now) (g.G.Gate.told c.loop-buf.gate)) run.events run.frames c.loop-buf.intake run.is run.asked
+
+pub returns-clause-stop : goal.returns-clause-stop
+returns-clause-stop g c = λ other.
+    let run = c.loop-buf.invariant in
+    stops_there c.args.ticket.now c.args.limits.now (change (g.G.Gate.told c.args.gate.now) (g.G.Gate.told c.loop-buf.gate)) run.events run.frames c.loop-buf.intake run.is run.asked (sym c.runs.ensures.running ∙ c.loop-buf-test.false)

@@ -13,4 +13,4 @@ returns-clause-all g c =
     OnOk-then _ _ c.send.result c.send.ensures.sends.sent (λ went start all t pending.
     sent_all t start (told c.args.outlet.now) (told c.send.new.self) c.args.self all
     (omega (arith, pack, c.self.invariant.0)) (omega (arith, pack, frames, c.self.invariant.0)) (omega (arith, frames, c.if-self-eq0.false))
-    (subst (λ b. (told c.send.new.self).sent ≡ append_datagrams (told c.args.outlet.now).sent (b ∷ [])) bytes went) pending)
+    (subst (λ b. (told c.send.new.self).sends ≡ append_datagrams (told c.args.outlet.now).sends (b ∷ [])) bytes went) pending)

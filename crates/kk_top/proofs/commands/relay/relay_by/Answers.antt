@@ -32,7 +32,7 @@ returns-in-Ok g c =
     let lines = lines_by order (stream_of (steps_u32 (next_word 10)) c.from_seed-rng.result) (events_told gate) c.in-Ok.relayed.gate c.in-Ok.relayed.innovative c.in-Ok.relayed.sent words h.counts
     (h.innovative ∙ ap (λ (l : List BasisState). sum_by rank l) (h.rows (λ e. cc))) h.number in
     relays_done order gate report outlet c.conclude.result (h.gate_fault.kept (λ e. cc)) (h.outlet_fault.kept (λ e. cc)) h.asked (h.stop (λ e. cc))
-    (h.sent (λ e. cc) ∙ ap (append_datagrams (g.O.Outlet.told c.args.outlet.now).sent) list)
+    (h.sent (λ e. cc) ∙ ap (append_datagrams (g.O.Outlet.told c.args.outlet.now).sends) list)
     (through_told 0 c.conclude.result (inl refl) c.conclude.ensures.same_or_five) (λ can. c.conclude.ensures.five can refl)
     (subst (λ (l : List ℕ). WasGiven (concluded_text 0 l) report) (c.as_str.ensures.value ∙ c.relay_lines.ensures.text ∙ lines) c.conclude.ensures.given)
 
@@ -64,7 +64,7 @@ returns g c = by c.in-Err.fault refl
         let h = c.relay_all-relayed.ensures in
         let why = c.from.ensures ∙ ap refusal_of_relay at in
         relays_gate_failed order gate report outlet c.refuse.result (h.gate_fault.rose failed) (h.outlet_fault.kept other) h.asked (h.stop other)
-        (h.sent other ∙ ap (append_datagrams outlet.old.sent) (list_by order rng (events_told gate) words))
+        (h.sent other ∙ ap (append_datagrams outlet.old.sends) (list_by order rng (events_told gate) words))
         (c.refuse.ensures.status ∙ ap status_of why) (subst (λ r. WasGiven (refusal_text r) report) why c.refuse.ensures.given)
     by Outlet at =
         let failed : c.relay_all-relayed.result ≡ Err Outlet = c.in-Err.is ∙ ap (λ (f : RelayFault). Err f) at in

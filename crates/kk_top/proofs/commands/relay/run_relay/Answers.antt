@@ -5,7 +5,7 @@ use Rattle.kk_outside.specs.Change.{change}
 use Rattle.kk_top.specs.Command.{texts}
 use Rattle.kk_top.specs.commands.Relay.{Order}
 use Rattle.kk_top.specs.declared.refusal.Refusal.TheVariants.{Memory}
-use Rattle.kk_top.proofs.RelayPromises.{relays_refused, relays_unheard, relays_ran, first_is}
+use Rattle.kk_top.proofs.RelayPromises.{relays_refused, relays_unheard, relays_ran, first_is, as_many}
 use Rattle.kk_top.proofs.commands.relay.run_relay.Goals as goal
 
 none_by : (n : ℕ) → eqb n 0 ≡ true → n ≡ 0
@@ -39,4 +39,5 @@ returns-clause-relays g c =
     let some : length c.args.gates.now.items ≡ 0 → ⊥ = λ none. some_by c.args.gates.now.len (sym c.is_empty.ensures ∙ c.if-is_empty.false) (c.args.gates.now.ok.0 ∙ none) in
     relays_ran (texts c.args.words.now) order c.relay_by.result _ _ _ _ c.in-Ok.ensures.ordered
     (first_is g.G.Gate.told c.args.gates.now.items c.index_mut.result.now c.relay_by.new.gate some c.index_mut.ensures.value)
+    (as_many g.G.Gate.told c.args.gates.now.items c.relay_by.new.gate)
     c.relay_by.ensures

@@ -72,5 +72,5 @@ returns-in-Ok-sent-clause-sends g c =
       unread = λ e. absurd (sent_err c.in-Ok-sent.sent _ e);
       unsent = λ e. absurd (sent_err c.in-Ok-sent.sent _ e);
     })
-    (h.sent ∙ ap (append_datagrams o0.sent) list)
+    (h.sent ∙ ap (append_datagrams o0.sends) list)
     (subst (λ l. WasGiven (concluded_text 0 l) report) line c.conclude.ensures.given) refl c.conclude.ensures.same_or_five c.conclude.ensures.five

@@ -25,3 +25,7 @@ pub returns-in-Err-simulated-clause-simulates : goal.returns-in-Err-simulated-cl
 returns-in-Err-simulated-clause-simulates g c =
     sim_refused (texts c.args.words.now) Memory _ _ c.refuse-in-Err-simulated.result tt c.refuse-in-Err-simulated.ensures.status
     (subst (λ r. WasGiven (refusal_text Memory) (change (g.P.Sink.told r) (g.P.Sink.told c.refuse-in-Err-simulated.new.report))) c.in-Err-simulated.ensures.untouched c.refuse-in-Err-simulated.ensures.given)
+
+pub returns-in-Err-clause-simulates : goal.returns-in-Err-clause-simulates
+returns-in-Err-clause-simulates g c =
+    sim_refused (texts c.args.words.now) c.in-Err.refusal _ _ c.refuse.result c.in-Err.ensures.refused c.refuse.ensures.status c.refuse.ensures.given
