@@ -40,7 +40,7 @@ impl Rows {
             .state
             .wrapping_mul(6_364_136_223_846_793_005)
             .wrapping_add(1_442_695_040_888_963_407);
-        Row(self.state >> (64 - WIDTH))
+        Row(u128::from(self.state >> (64 - WIDTH)))
     }
 }
 

@@ -72,6 +72,7 @@ fn skip_words<R: Rng>(count: u32, rng: &mut R)
 /// Appends rows that aren't of the codeword, each by the next two words.
 fn inject_rows<R: Rng>(rows: &[Row], inject: u32, passed: &mut ChannelRows, rng: &mut R)
     requires room { length passed.old + inject ≤ MAX_CHANNEL_ROWS }
+    requires few { inject ≤ 64 }
     ensures rows { (start : Stream) → R.stream rng.old ≡ after_words (length rows.now) start
         → passed.new ≡ passed.old ++ injected_rows (word_at start) (numbers rows.now) inject }
     ensures words { (start : Stream) → R.stream rng.old ≡ after_words (length rows.now) start
@@ -90,5 +91,5 @@ fn foreign_row(rows: &[Row], j: u32, lower: u64, word: u64) -> Row
     ensures { result.0 ≡ foreign_row (numbers rows.now) j lower word }
 {
     let top = 1u64 << j;
-    Row(top ^ (lower % top) ^ combination(rows, word).0)
+    Row(u128::from(top ^ (lower % top)) ^ combination(rows, word).0)
 }

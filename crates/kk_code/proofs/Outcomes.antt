@@ -3,7 +3,7 @@ use Rattle.std.proofs.Common.{◌≡◌, ◌⊎◌, ℕ, ◌+◌, ◌^◌, ◌�
 use Rattle.std.proofs.lemmas.Bool.{cases_lt, cases_Bool, and_parts, leb-true, ltb-true}
 use Rattle.kk_field.specs.Field.{polynomial}
 use Rattle.kk_field.proofs.Remainders.{HasDegree-modulus}
-use Rattle.kk_code.specs.Codeword.{Parameters, IsInRange}
+use Rattle.kk_code.specs.Codeword.{Parameters, IsInRange, IsNarrow}
 use Rattle.kk_code.specs.Ticket.{TicketFields, generations}
 use Rattle.kk_code.specs.TicketText.{shape_fault, range_fault, spelled, IsFirstFault, IsTicketText}
 use Rattle.kk_code.specs.declared.ticket.TheConstants.{MAX_GENERATIONS}
@@ -32,17 +32,27 @@ IsInRange-from_no_fault p h =
     let symbols = and_parts (leb 1 p.k) (leb p.k p.l) fourth.0 in
     record {
       m_low = leb-true 2 m degree.0;
-      m_high = leb-true m 62 degree.1;
+      m_high = omega (arith, leb-true m 62 degree.1);
       low = ltb-true p.field.low (2 ^ m) second.0;
       l_low = leb-true 1 p.l some_points.0;
       l_high = leb-true p.l m some_points.1;
-      wide = leb-true (p.l + m) 63 points.1;
       k_low = leb-true 1 p.k symbols.0;
       k_high = leb-true p.k p.l symbols.1;
     }
 
+pub IsNarrow-from_no_fault : (p : Parameters) → range_fault p ≡ None → IsNarrow p
+unfolding range_fault
+IsNarrow-from_no_fault p h =
+    let m = p.field.degree in
+    let first = passed (leb 2 m && leb m 62) 2 _ h in
+    let second = passed (ltb p.field.low (2 ^ m)) 3 _ first.1 in
+    let third = passed (leb 1 p.l && leb p.l m && leb (p.l + m) 63) 4 _ second.1 in
+    let degree = and_parts (leb 2 m) (leb m 62) first.0 in
+    let points = and_parts (leb 1 p.l && leb p.l m) (leb (p.l + m) 63) third.0 in
+    record { m_high = leb-true m 62 degree.1; wide = leb-true (p.l + m) 63 points.1 }
+
 pub ticket_of : TextIsOfATicket
-ticket_of text t h = record { session = session_below text t h; code = IsInRange-from_no_fault t.code h.range; irreducible = h.irreducible; few = h.few }
+ticket_of text t h = record { session = session_below text t h; code = IsInRange-from_no_fault t.code h.range; narrow = IsNarrow-from_no_fault t.code h.range; irreducible = h.irreducible; few = h.few }
 
 value_of : {A : Type 0} (o : Option A) → ((x : A) × (o ≡ Some x)) ⊎ (o ≡ None)
 value_of None = inr refl

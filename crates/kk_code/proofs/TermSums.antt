@@ -18,7 +18,7 @@ use Rattle.kk_code.proofs.PackedMultiples.{part, part-xor, part-zero, part-multi
 
 -- ---- how many values a word has
 
-pub some_per_word : (m : ℕ) → 1 ≤ m → m ≤ 62 → 1 ≤ 64 / m
+pub some_per_word : (m : ℕ) → 1 ≤ m → m ≤ 64 → 1 ≤ 64 / m
 some_per_word m some few = elim (cases_eq (64 / m) 0) [
   | inl none ↦
       let over : 64 < 64 / m * m + m = lt-div-mul-add (omega (arith, some)) in

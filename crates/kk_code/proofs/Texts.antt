@@ -11,7 +11,7 @@ use Rattle.std.proofs.Math.Pow.{pow_mono}
 use Rattle.std.proofs.lemmas.Bool.{false≢true, and_parts}
 use Rattle.std.proofs.lemmas.List.Splits.{slice_split_at, slice_split_none, join_with_byte-slice_split}
 use Rattle.std.proofs.lemmas.Slice.Eq.{bytes_eq-Decides}
-use Rattle.kk_code.specs.Codeword.{Parameters, IsInRange}
+use Rattle.kk_code.specs.Codeword.{Parameters, IsInRange, IsNarrow}
 use Rattle.kk_code.specs.Ticket.{TicketFields, ticket_text, hex}
 use Rattle.kk_code.specs.TicketText.{parts, part_at, is_mark, is_hex, is_hex_digit, is_decimal, forms, first_misshapen, shape_fault, range_fault, spelled, IsTicket, IsTicketText}
 use Rattle.kk_code.proofs.Tickets.{length_below}
@@ -152,7 +152,7 @@ spelled_of_seven text a b c d e f g t h eb ec ed ee ef eg =
 
 -- ---- ranges
 
-pub range_fault_none : (p : Parameters) → IsInRange p → range_fault p ≡ None
+pub range_fault_none : (p : Parameters) → IsInRange p → IsNarrow p → range_fault p ≡ None
 unfolding range_fault
 range_fault_none p h = grind (arith, nat_tests)
 
@@ -171,7 +171,7 @@ text_of_ticket t h =
     let l : t.code.l < 10 ^ 10 = omega (arith, h.code.m_high, h.code.l_high) in
     let k : t.code.k < 10 ^ 10 = omega (arith, h.code.m_high, h.code.l_high, h.code.k_high) in
     let len : t.length < 10 ^ 10 = omega (arith, length_below t h) in
-    let power : 2 ^ t.code.field.degree ≤ 2 ^ 62 = pow_mono h.code.m_high in
+    let power : 2 ^ t.code.field.degree ≤ 2 ^ 64 = pow_mono h.code.m_high in
     let low : t.code.field.low < 16 ^ 16 = omega (arith, h.code.low) in
     let are : HasSevenParts (ticket_text t) (codes "kk1") (hex 8 t.session) (decimal t.code.field.degree) (hex 16 t.code.field.low) (decimal t.code.l) (decimal t.code.k) (decimal t.length) = record {
       are =
@@ -191,7 +191,7 @@ text_of_ticket t h =
       spells = spelled_of_seven (ticket_text t) _ _ _ _ _ _ _ t are
           (digits_value-hex 8 t.session h.session) (digits_value-of_decimal t.code.field.degree m) (digits_value-hex 16 t.code.field.low low)
           (digits_value-of_decimal t.code.l l) (digits_value-of_decimal t.code.k k) (digits_value-of_decimal t.length len);
-      range = range_fault_none t.code h.code;
+      range = range_fault_none t.code h.code h.narrow;
       irreducible = h.irreducible;
       few = h.few;
     }

@@ -54,18 +54,17 @@ codeword_below p u h = rows_are_below p u p.l h (omega arith)
 
 -- ---- what the encoder computes
 
--- what the shifts of a row compute
-pub row_shifted : (i l m : ℕ) → i < l → l + m ≤ 63 → 1 * 2 ^ i % 2 ^ 64 * 2 ^ m % 2 ^ 64 ≡ 2 ^ i * 2 ^ m
-row_shifted i l m h wide =
-    let few : i < 64 = omega arith in
-    let room : l + m ≤ 64 = omega arith in
-    ap (λ x. x * 2 ^ m % 2 ^ 64) (one_shl i 64 few) ∙ shl_whole (2 ^ i) l m 64 (pow_below i l h) room
+-- what the shift and the sum of a row compute
+pub row_joined : (x y m n : ℕ) → n ≡ m → m ≤ 64 → x < 2 ^ m → y < 2 ^ m → (x * 2 ^ n % 2 ^ 128 ≡ x * 2 ^ m) × (x * 2 ^ m + y < 2 ^ 128)
+row_joined x y m n same few x_below y_below =
+    let room : m + m ≤ 128 = omega arith in
+    let whole : 2 ^ (m + m) ≤ 2 ^ 128 = pow_mono room in
+    let square : 2 ^ (m + m) ≡ 2 ^ m * 2 ^ m = pow-add 2 m m in
+    let below : x * 2 ^ m + y < 2 ^ m * 2 ^ m = mul-add-lt x (2 ^ m) y (2 ^ m) x_below y_below in
+    (ap (λ k. x * 2 ^ k % 2 ^ 128) same ∙ shl_whole x m m 128 x_below room, omega (arith, whole, square, below))
 
--- the row at evaluation point 2^i, as shifts compute it
-pub row_computed : (p : Parameters) (i m y : ℕ) → IsInRange p → i < p.l → m ≡ p.field.degree → y < 2 ^ p.field.degree → (1 * 2 ^ i % 2 ^ 64 * 2 ^ m % 2 ^ 64 + y ≡ row_of p (2 ^ i) y) × (row_of p (2 ^ i) y < 2 ^ 64)
-row_computed p i m y h inside m_is below =
-    let wide : p.l + m ≤ 63 = omega (arith, h.wide) in
-    let room : p.l + p.field.degree < 64 = omega (arith, h.wide) in (
-      ap (λ n. n + y) (row_shifted i p.l m inside wide ∙ ap (λ n. 2 ^ i * 2 ^ n) m_is),
-      omega (arith, row_below i p.l p.field.degree y inside below, pow_below (p.l + p.field.degree) 64 room),
-    )
+-- the x-part of row i
+pub point_is : (p : Parameters) (i : ℕ) → IsInRange p → i < p.l → (1 * 2 ^ i % 2 ^ 64 ≡ 2 ^ i) × (2 ^ i < 2 ^ p.field.degree)
+point_is p i h inside =
+    let few : i < 64 = omega (arith, h.l_high, h.m_high) in
+    let below : i < p.field.degree = omega (arith, h.l_high) in (one_shl i 64 few, pow_below i p.field.degree below)

@@ -18,13 +18,17 @@ width p = p.l + p.field.degree
 -- the ranges that this version of the code allows
 pub record IsInRange (p : Parameters) : Type 0 where
   pub m_low : 2 ≤ p.field.degree
-  pub m_high : p.field.degree ≤ 62
+  pub m_high : p.field.degree ≤ 64
   pub low : p.field.low < 2 ^ p.field.degree
   pub l_low : 1 ≤ p.l
   pub l_high : p.l ≤ p.field.degree
-  pub wide : p.l + p.field.degree ≤ 63
   pub k_low : 1 ≤ p.k
   pub k_high : p.k ≤ p.l
+
+-- the narrower ranges of a ticket's code: a row has at most 63 bits
+pub record IsNarrow (p : Parameters) : Type 0 where
+  pub m_high : p.field.degree ≤ 62
+  pub wide : p.l + p.field.degree ≤ 63
 
 -- what the laws of codewords ask of a code: a field, points below 2^m, and no more symbols than points
 pub record IsCode (p : Parameters) : Type 0 where

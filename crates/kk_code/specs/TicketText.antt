@@ -7,7 +7,7 @@ use Rattle.std.specs.Int.{is_in_range}
 use Rattle.std.specs.Str.Parse.{digits_value}
 use Rattle.kk_field.specs.Field.{polynomial}
 use Rattle.kk_field.specs.Polynomial.{IsIrreducible}
-use Rattle.kk_code.specs.Codeword.{Parameters, IsInRange, width}
+use Rattle.kk_code.specs.Codeword.{Parameters, IsInRange, IsNarrow, width}
 use Rattle.kk_code.specs.declared.ticket.TheConstants.{MAX_GENERATIONS}
 use Rattle.kk_code.specs.declared.fault.TicketFault.{TicketFault}
 use Rattle.kk_code.specs.declared.fault.TicketFault.TheVariants.{Shape, Range, NotIrreducible, TooMany}
@@ -91,6 +91,7 @@ range_fault p =
 pub record IsTicket (t : TicketFields) : Type 0 where
   pub session : t.session < 2 ^ 32
   pub code : IsInRange t.code
+  pub narrow : IsNarrow t.code
   pub irreducible : IsIrreducible (polynomial t.code.field)
   pub few : generations t ≤ MAX_GENERATIONS
 

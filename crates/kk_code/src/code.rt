@@ -1,6 +1,6 @@
 //! The parameters of a code.
-ghost use Rattle.std.specs.Prelude.{◌≡◌, ◌/◌, ◌%◌, ◌^◌, ◌<◌, IfOk, IfErr};
-ghost use Rattle.kk_code.specs.Codeword.{Parameters, IsInRange, IsCode, width};
+ghost use Rattle.std.specs.Prelude.{◌≡◌, ◌-◌, ◌/◌, ◌%◌, ◌^◌, ◌<◌, ◌≤◌, IfOk, IfErr};
+ghost use Rattle.kk_code.specs.Codeword.{Parameters, IsInRange, IsCode, row_of, width};
 ghost use Rattle.kk_code.specs.Limits.{IsFirstBroken};
 
 use crate::BadParams;
@@ -11,7 +11,7 @@ use std::marker::Model;
 /// The code of Kötter and Kschischang (IEEE Trans. Inf. Theory 54(8), 2008, section IV) over GF(2^m), with `l`
 /// evaluation points and messages of `k` symbols.
 ///
-/// `m` is 2 to 62, `l` is 1 to `m` with `l + m` at most 63, and `k` is 1 to `l`.
+/// `m` is 2 to 64, `l` is 1 to `m`, and `k` is 1 to `l`.
 #[derive(Clone, Copy)]
 pub struct Code {
     field: Field,
@@ -37,21 +37,18 @@ impl Code {
     ///
     /// # Errors
     ///
-    /// The first limit that is broken: `M`, `L`, `Wide` or `K`.
+    /// The first limit that is broken: `M`, `L` or `K`.
     pub fn new(field: Field, l: u32, k: u32) -> Result<Self, BadParams>
         ensures code { IfOk result (λ code. code ≡ record { field = field; l = l; k = k }) }
         ensures in_range { IfOk result IsInRange }
         ensures broken { IfErr result (IsFirstBroken (record { field = field; l = l; k = k })) }
     {
         let m = field.ring().m();
-        if m < 2 || m > 62 {
+        if m < 2 || m > 64 {
             return Err(BadParams::M);
         }
         if l < 1 || l > m {
             return Err(BadParams::L);
-        }
-        if l + m > 63 {
-            return Err(BadParams::Wide);
         }
         if k < 1 || k > l {
             return Err(BadParams::K);
@@ -112,6 +109,16 @@ impl Code {
         self.l + self.m()
     }
 
+    /// The row of an x-part and a y-part, which are elements of the field.
+    pub(crate) fn row(&self, x: u64, y: u64) -> Row
+        requires x_below { x < 2 ^ self.now.field.degree }
+        requires y_below { y < 2 ^ self.now.field.degree }
+        ensures { result.0 ≡ row_of self.now x y }
+    {
+        let (high, low) = (u128::from(x), u128::from(y));
+        Row((high << self.m()) + low)
+    }
+
     /// The x-part and the y-part of a row, which has `l + m` bits: both are elements of the field.
     pub fn parts(&self, row: Row) -> (u64, u64)
         requires { row.0 < 2 ^ width self.now }
@@ -121,8 +128,18 @@ impl Code {
         ensures y_below { result.1 < 2 ^ self.now.field.degree }
     {
         let m = self.m();
-        (row.0 >> m, row.0 & ((1 << m) - 1))
+        let y = row.0 & u128::from(mask(m));
+        ((row.0 >> m) as u64, y as u64)
     }
+}
+
+/// The lowest `m` ones of a word.
+pub(crate) fn mask(m: u32) -> u64
+    requires fits { m ≤ 64 }
+    requires some { 1 ≤ m }
+    ensures { result ≡ 2 ^ m - 1 }
+{
+    u64::MAX >> (64 - m)
 }
 
 #[cfg(test)]
@@ -143,10 +160,12 @@ mod tests {
     fn the_first_broken_limit_is_named(rt: HostRuntime) {
         for (m, low, l, k, limit) in [
             (3, 3, 3, 1, None),
-            (64, 0x1b, 0, 0, Some(BadParams::M)),
+            (1, 1, 0, 0, Some(BadParams::M)),
+            (64, 0x1b, 64, 64, None),
+            (64, 0x1b, 65, 65, Some(BadParams::L)),
             (3, 3, 0, 0, Some(BadParams::L)),
             (3, 3, 4, 5, Some(BadParams::L)),
-            (40, 0x39, 24, 25, Some(BadParams::Wide)),
+            (40, 0x39, 40, 40, None),
             (3, 3, 3, 0, Some(BadParams::K)),
             (3, 3, 3, 4, Some(BadParams::K)),
         ] {

@@ -8,15 +8,15 @@ use crate::multiples::make_table;
 use crate::terms::Terms;
 use crate::{Code, CodeRows, Message};
 use kk_field::Steps;
-use kk_rows::{Alloc, Row};
+use kk_rows::Alloc;
 use kk_tables::FieldTables;
 use kk_tables::bytes::{ENTRIES, image_of};
 use std::alloc::Global;
 use std::marker::{Brand, Model};
 use std::sync::ledger::{Blank, Ledger};
 
-/// The most symbols of a message: there are at most as many as evaluation points, and these are at most 31.
-pub(crate) const MAX_SYMBOLS: usize = 31;
+/// The most symbols of a message: there are at most as many as evaluation points, and these are at most 64.
+pub(crate) const MAX_SYMBOLS: usize = 64;
 
 /// The encoder of a code, by tables that are made once: for who encodes many messages. It takes 16 KB for each symbol.
 ///
@@ -89,13 +89,13 @@ impl Encoder {
         ensures count { length result ≡ self.now.l }
         ensures below { All (λ r. r < 2 ^ width self.now) result }
     {
-        let m = self.code.m();
+        let l = self.code.l();
         let mut terms = Terms::of(u);
         let mut rows = CodeRows::new();
-        for i in 0..self.code.l() {
+        for i in 0..l {
             let x = 1 << i;
             let y = terms.next(self);
-            rows.push(Row((x << m) + y));
+            rows.push(self.code.row(x, y));
         }
         rows
     }

@@ -5,7 +5,6 @@ ghost use Rattle.kk_code.specs.Codeword.{IsMessage, codeword, width};
 use crate::{Code, CodeRows, Message};
 use kk_field::Steps;
 use kk_linpoly::LinPoly;
-use kk_rows::Row;
 use kk_tables::FieldTables;
 use std::sync::ledger::Ledger;
 
@@ -37,13 +36,12 @@ pub fn encode_with<L: Ledger>(
     ensures below { All (λ r. r < 2 ^ width code.now) result }
     ensures cost { steps.new ≤ steps.old + 2 * code.now.field.degree * code.now.k }
 {
-    let m = code.m();
     let f = LinPoly::from_slice(u.symbols());
     let mut rows = CodeRows::new();
     for i in 0..code.l() {
         let x = 1 << i;
         let y = f.eval(tables, x, steps);
-        rows.push(Row((x << m) + y));
+        rows.push(code.row(x, y));
     }
     rows
 }

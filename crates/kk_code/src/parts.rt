@@ -3,7 +3,7 @@ ghost use Rattle.std.specs.Prelude.{◌≡◌, ◌^◌, ◌<◌, ◌≤◌, if�
 ghost use Rattle.std.specs.Char.{is_ascii_digit};
 ghost use Rattle.std.specs.List.{list_all};
 ghost use Rattle.std.specs.Str.Parse.{digits_value};
-ghost use Rattle.kk_code.specs.Codeword.{IsInRange};
+ghost use Rattle.kk_code.specs.Codeword.{IsInRange, IsNarrow};
 ghost use Rattle.kk_code.specs.TicketText.{parts, part_at, has_form, is_mark, is_hex, is_hex_digit, is_decimal, shape_fault, range_fault, spelled};
 
 use crate::Code;
@@ -177,6 +177,7 @@ impl Parts {
     pub(crate) fn range_fault(&self) -> Option<u32>
         ensures fault { result ≡ range_fault self.now.code }
         ensures in_range { IfNone result (IsInRange self.now.code) }
+        ensures narrow { IfNone result (IsNarrow self.now.code) }
     {
         if self.m < 2 || self.m > 62 {
             return Some(2);

@@ -4,6 +4,7 @@ ghost use Rattle.kk_code.specs.Codeword.{IsInRange, IsMessage, Parameters};
 ghost use Rattle.kk_code.specs.Encoder.{AreElements, AreValuesFrom, value_at};
 
 use crate::Message;
+use crate::code::mask;
 use crate::encoder::{Encoder, MAX_SYMBOLS};
 
 /// The next values of a message's polynomial, `left` of them in a word, and the terms at the point of the last of these.
@@ -44,8 +45,9 @@ impl Terms {
     {
         let (_, m) = encoder.layout();
         self.refill(encoder);
-        let value = self.word % (1 << m);
-        self.word >>= m;
+        let value = self.word & mask(m);
+        // in two steps, since m can be all bits of the word
+        self.word = (self.word >> (m - 1)) >> 1;
         self.left -= 1;
         value
     }

@@ -42,6 +42,31 @@ fn the_codeword_of_five_has_rows_13_17_34(rt: HostRuntime) -> Result<(), Fail> {
     Ok(())
 }
 
+/// The codeword of a message of one symbol over GF(2^64) at all evaluation points, by tables.
+fn widest_rows(alloc: Global, symbol: u64) -> Result<Option<CodeRows>, Alloc> {
+    let Ok(field) = check_modulus(64, 0x1b) else {
+        return Ok(None);
+    };
+    let Ok(code) = Code::new(field, 64, 1) else {
+        return Ok(None);
+    };
+    if u128::from(symbol) >> code.m() != 0 {
+        return Ok(None);
+    }
+    let encoder = Encoder::new(alloc, &code)?;
+    Ok(Some(encoder.encode(&Message::from_slice(&[symbol]))))
+}
+
+#[test]
+fn the_widest_codeword_has_rows_of_128_bits(rt: HostRuntime) -> Result<(), Fail> {
+    let rows = widest_rows(rt.alloc(), 1)?.ok_or("no code")?;
+    let rows = rows.as_slice();
+    assert_eq!(rt; rows.len(), 64);
+    assert_eq!(rt; rows.first(), Some(&Row((1 << 64) + 1)));
+    assert_eq!(rt; rows.last(), Some(&Row((1 << 127) + (1 << 63))));
+    Ok(())
+}
+
 /// The codeword of a message of two symbols, by tables.
 fn rows_by_tables(
     alloc: Global,

@@ -1,5 +1,6 @@
 //! Tickets: what sender, relays and receiver agree on before a transmission.
 ghost use Rattle.std.specs.Prelude.{◌≡◌, ℕ, ◌^◌, ◌*◌, ◌/◌, ◌<◌, ◌≤◌, ◌↔◌, Ok, Err, IfOk, IfErr, IsErr};
+ghost use Rattle.kk_code.specs.Codeword.{IsNarrow};
 ghost use Rattle.kk_code.specs.Ticket.{TicketFields, message_bits, generations, for_length, ticket_text};
 ghost use Rattle.kk_code.specs.TicketText.{IsTicket, IsTicketText, IsFirstFault};
 ghost use Rattle.kk_code.specs.Reading.{IsRefused, IsAnswer};
@@ -148,7 +149,8 @@ impl Ticket {
 
     /// The ticket of these parts, unless the file takes too many generations.
     fn of(session: u32, code: Code, length: u64) -> Result<Self, TicketFault>
-        requires { length < 10 ^ 10 }
+        requires short { length < 10 ^ 10 }
+        requires narrow { IsNarrow code }
         ensures ticket { IfOk result (λ t. t ≡ record { session = session; code = code; length = length }) }
         ensures too_many { IfErr result (λ fault. fault ≡ TicketFault.TooMany (generations (record { session = session; code = code; length = length }))) }
         ensures refused { IsErr result ↔ (MAX_GENERATIONS < generations (record { session = session; code = code; length = length })) }

@@ -1,9 +1,9 @@
 -- The rows of a space and what is 0 on them.
-use Rattle.std.proofs.Common.{◌≡◌, ℕ, ◌+◌, ◌*◌, ◌/◌, ◌%◌, ◌^◌, ◌<◌, ◌≤◌, List, [], ◌∷◌, ◌++◌, map, length, take, drop, take-append-drop, sym, ap, ap₂, ◌∙◌, subst, bit_xor, arith}
+use Rattle.std.proofs.Common.{◌≡◌, ℕ, add-one, ◌+◌, ◌-◌, ◌*◌, ◌/◌, ◌%◌, ◌^◌, ◌<◌, ◌≤◌, List, [], ◌∷◌, ◌++◌, map, length, take, drop, take-append-drop, sym, ap, ap₂, ◌∙◌, subst, bit_xor, arith}
 use Rattle.std.specs.Prelude.{All}
-use Rattle.std.proofs.Math.Nat.{zero-div, zero-mod, lt-mul-div-succ}
+use Rattle.std.proofs.Math.Nat.{zero-div, zero-mod, lt-mul-div-succ, two-pow-succ}
 use Rattle.std.specs.Int.Bits.{xor_zero_l}
-use Rattle.std.proofs.lemmas.Nat.{pow_pos, xor_shr, xor_mod}
+use Rattle.std.proofs.lemmas.Nat.{pow_pos, mul-le, xor_shr, xor_mod}
 use Rattle.std.proofs.lemmas.List.Elements.{All-nil, All-cons, All-head, All-tail}
 use Rattle.kk_field.specs.Field.{Modulus}
 use Rattle.kk_field.proofs.Sums.{xor_xor_swap}
@@ -19,6 +19,15 @@ use Rattle.kk_rows.proofs.Spans.{in_span-least}
 use Rattle.kk_interp.specs.declared.bi_poly.BiPoly.{BiPoly}
 use Rattle.kk_interp.specs.BiPoly.{IsZeroAt, value_at}
 use Rattle.kk_decode.specs.Solving.{point_of, IsZeroOn}
+
+-- a number of which the place of the top bit leaves a bit
+pub below_from_top : (x top w : ℕ) → 1 ≤ w → top ≡ w - 1 → x / 2 ^ top ≤ 1 → x < 2 ^ w
+below_from_top x top w some same bit =
+    let h : x < 2 ^ top * (x / 2 ^ top + 1) = lt-mul-div-succ x (pow_pos top) in
+    let most : 2 ^ top * (x / 2 ^ top + 1) ≤ 2 ^ top * 2 = mul-le (2 ^ top) (x / 2 ^ top + 1) (2 ^ top) 2 (omega arith) (omega arith) in
+    let next : w ≡ top + 1 = omega arith in
+    let power : 2 ^ w ≡ 2 ^ top + 2 ^ top = ap (λ k. 2 ^ k) (next ∙ add-one top) ∙ two-pow-succ top in
+    omega (arith, h, most, power)
 
 -- what a shift leaves nothing of
 pub below_from_shift : (x l : ℕ) → x / 2 ^ l ≡ 0 → x < 2 ^ l

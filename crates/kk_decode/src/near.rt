@@ -31,7 +31,7 @@ fn foreign<L: Ledger>(
     let mut offsets = RowSpace::new(code.m());
     for row in space.rows() {
         let (x, y) = code.parts(*row);
-        let _ = offsets.insert(Row(y ^ f.eval(tables, x, steps)));
+        let _ = offsets.insert(Row(u128::from(y ^ f.eval(tables, x, steps))));
     }
     offsets.rank()
 }

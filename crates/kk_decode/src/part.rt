@@ -30,11 +30,12 @@ pub(crate) fn is_part<L: Ledger>(
     ensures near { IsTrue result → distance (codeword code.now u.now) space.now.rows ≤ code.now.l - code.now.k }
     ensures cost { steps.new ≤ steps.old + dimension space.now.rows * (2 * code.now.k) }
 {
-    let l = code.l();
+    // its parameters are in range
+    let _k = code.k();
     let f = LinPoly::from_slice(u.symbols());
     for row in space.rows() {
         let (x, y) = code.parts(*row);
-        if x >> l != 0 || f.eval(tables, x, steps) != y {
+        if f.eval(tables, x, steps) != y {
             return false;
         }
     }

@@ -8,10 +8,11 @@ use crate::basis::Basis;
 use crate::spaces::spanned;
 use crate::whole::whole;
 use crate::{Loss, Scratch, channel_loss, decode, decode_space};
-use kk_code::{Code, CodeRows, Message, Ticket, encode};
+use kk_code::{Code, CodeRows, Message, Ticket, check_modulus, encode};
 use kk_field::Steps;
-use kk_rows::{Row, RowSpace};
+use kk_rows::{Alloc, Row, RowSpace};
 use kk_tables::FieldTables;
+use std::alloc::Global;
 use std::marker::Brand;
 use std::sync::ledger::{Blank, Ledger};
 use std::test::Fail;
@@ -38,9 +39,9 @@ fn decoded<L: Ledger>(
 fn are_rows_of(code: &Code, rows: &[Row]) -> bool
     ensures { IsTrue result → All (λ r. r < 2 ^ width code.now) (numbers rows.now) }
 {
-    let width = code.width();
+    let top = code.width() - 1;
     for row in rows {
-        if row.0 >> width != 0 {
+        if row.0 >> top > 1 {
             return false;
         }
     }
@@ -51,9 +52,9 @@ fn are_rows_of(code: &Code, rows: &[Row]) -> bool
 fn message(code: &Code, symbols: &[u64]) -> Option<Message>
     ensures { IfSome result (IsMessage code.now) }
 {
-    let m = code.m();
+    let top = code.m() - 1;
     for symbol in symbols {
-        if symbol >> m != 0 {
+        if *symbol >> top > 1 {
             return None;
         }
     }
@@ -203,6 +204,49 @@ fn worked_spaces_are_decoded(rt: HostRuntime) -> Result<(), Fail> {
             Some(Loss { erased, injected })
         );
     }
+    Ok(())
+}
+
+// The code over GF(2^64) of 64 points and one symbol.
+fn widest() -> Option<Code> {
+    Code::new(check_modulus(64, 0x1b).ok()?, 64, 1).ok()
+}
+
+// The rows x = y = 2^i for i below 32, and x = 0, y = 2^j for j below `foreign`.
+fn half_foreign(alloc: Global, foreign: u32) -> Result<Vec<Row>, Alloc>
+    requires { foreign ≤ 32 }
+{
+    let mut rows = Vec::with_capacity(alloc, 64)?;
+    for i in 0..32u32 {
+        rows.push(Row((1 << (64 + i)) | (1 << i)))?;
+    }
+    for j in 0..foreign {
+        rows.push(Row(1 << j))?;
+    }
+    Ok(rows)
+}
+
+// What the rows decode to under the widest code.
+fn widest_answer<L: Ledger>(rows: &[Row], blank: Blank) -> Option<Message>
+    requires name { blank.name ≡ L.name }
+    requires parts { blank.parts ≡ L.parts }
+    requires some { 0 < blank.parts }
+{
+    let code = widest()?;
+    if !are_rows_of(&code, rows) {
+        return None;
+    }
+    let mut steps: Steps<L> = Steps::new(blank);
+    decode(&code, rows, &mut Scratch::new(), &mut steps)
+}
+
+#[test]
+fn the_widest_code_decodes_on_its_radius_alone(rt: HostRuntime) -> Result<(), Fail> {
+    let near = half_foreign(rt.alloc(), 31)?;
+    let far = half_foreign(rt.alloc(), 32)?;
+    let u = widest_answer::<Brand>(&near, Blank::new(1)).ok_or("no answer")?;
+    assert_eq!(rt; u.symbols(), [1].as_slice());
+    assert!(rt; widest_answer::<Brand>(&far, Blank::new(1)).is_none());
     Ok(())
 }
 

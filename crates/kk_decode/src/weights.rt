@@ -8,7 +8,7 @@ use kk_tables::FieldTables;
 use std::sync::ledger::Ledger;
 
 /// How many points the values can be at.
-pub(crate) const MAX_POINTS: usize = 31;
+pub(crate) const MAX_POINTS: usize = 64;
 
 /// The weights by which the values of a linearised polynomial of at most k coefficients, at 2^0, 2^1, .. 2^(k-1), give its
 /// coefficients: coefficient j is the sum of the values, each times the element of row j at its place. The rest is 0.
@@ -19,14 +19,14 @@ pub(crate) fn weights<L: Ledger>(
     field: &FieldTables,
     k: usize,
     steps: &mut Steps<L>,
-) -> [[u64; 32]; MAX_POINTS]
+) -> [[u64; 65]; MAX_POINTS]
     requires { k ≤ MAX_POINTS }
     ensures below { All (IsOver field.now.degree) result }
     ensures cost { steps.new ≤ steps.old + (k + k * (4 * k + 2 * field.now.degree + 1)) }
 {
     let nodes = nodes(field, k, steps);
     let zeros_at = vanishing(field, &nodes[..k], steps);
-    let mut rows = [[0; 32]; MAX_POINTS];
+    let mut rows = [[0; 65]; MAX_POINTS];
     for j in 0..k {
         rows[j] = row(field, &zeros_at[..k + 1], nodes[j], steps);
     }
@@ -34,12 +34,12 @@ pub(crate) fn weights<L: Ledger>(
 }
 
 /// The nodes 2^(2^j) for j below k, with zeros after them. Over GF(2), where 2 is no element, they are 1.
-fn nodes<L: Ledger>(field: &FieldTables, k: usize, steps: &mut Steps<L>) -> [u64; 32]
+fn nodes<L: Ledger>(field: &FieldTables, k: usize, steps: &mut Steps<L>) -> [u64; 65]
     requires { k ≤ MAX_POINTS }
     ensures below { IsOver field.now.degree result }
     ensures cost { steps.new ≤ steps.old + k }
 {
-    let mut nodes = [0; 32];
+    let mut nodes = [0; 65];
     let mut node = if field.m() > 1 { 2 } else { 1 };
     for j in 0..k {
         nodes[j] = node;
@@ -49,13 +49,13 @@ fn nodes<L: Ledger>(field: &FieldTables, k: usize, steps: &mut Steps<L>) -> [u64
 }
 
 /// The coefficients, from the constant up, of the monic polynomial whose zeros are the nodes, with zeros after them.
-fn vanishing<L: Ledger>(field: &FieldTables, nodes: &[u64], steps: &mut Steps<L>) -> [u64; 32]
+fn vanishing<L: Ledger>(field: &FieldTables, nodes: &[u64], steps: &mut Steps<L>) -> [u64; 65]
     requires few { length nodes.now ≤ MAX_POINTS }
     requires of_field { IsOver field.now.degree nodes.now }
     ensures below { IsOver field.now.degree result }
     ensures cost { steps.new ≤ steps.old + length nodes.now * (length nodes.now + 1) }
 {
-    let mut product = [0; 32];
+    let mut product = [0; 65];
     product[0] = field.one();
     for node in nodes {
         multiply(field, &mut product[..nodes.len() + 1], *node, steps);
@@ -85,9 +85,9 @@ fn row<L: Ledger>(
     polynomial: &[u64],
     x: u64,
     steps: &mut Steps<L>,
-) -> [u64; 32]
+) -> [u64; 65]
     requires some { 1 ≤ length polynomial.now }
-    requires few { length polynomial.now ≤ 32 }
+    requires few { length polynomial.now ≤ 65 }
     requires of_field { IsOver field.now.degree polynomial.now }
     requires x_below { x < 2 ^ field.now.degree }
     ensures below { IsOver field.now.degree result }
@@ -109,15 +109,15 @@ fn quotient<L: Ledger>(
     polynomial: &[u64],
     x: u64,
     steps: &mut Steps<L>,
-) -> [u64; 32]
+) -> [u64; 65]
     requires some { 1 ≤ length polynomial.now }
-    requires few { length polynomial.now ≤ 32 }
+    requires few { length polynomial.now ≤ 65 }
     requires of_field { IsOver field.now.degree polynomial.now }
     requires x_below { x < 2 ^ field.now.degree }
     ensures below { IsOver field.now.degree result }
     ensures cost { steps.new ≤ steps.old + (length polynomial.now - 1) }
 {
-    let mut quotient = [0; 32];
+    let mut quotient = [0; 65];
     let mut higher = 0;
     for i in (0..polynomial.len() - 1).rev() {
         higher = field.mul(higher, x, steps) ^ polynomial[i + 1];

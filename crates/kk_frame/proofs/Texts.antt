@@ -23,7 +23,7 @@ record FitsFrames (t : TicketFields) : Type 0 where
   width : width t.code ≤ 63
 
 ticket_fits : (t : TicketFields) → IsTicket t → FitsFrames t
-ticket_fits t ticket = record { session = ticket.session; generations = ticket.few; width = ticket.code.wide }
+ticket_fits t ticket = record { session = ticket.session; generations = ticket.few; width = ticket.narrow.wide }
 
 -- the bytes before the numbers, and the session
 pub record HasHeader (t : TicketFields) (kind : ℕ) (bytes : List ℕ) : Type 0 where

@@ -74,6 +74,6 @@ pub fn read_frame(bytes: &[u8; FRAME_BYTES], ticket: &Ticket) -> Result<Frame, F
     }
     Ok(Frame::Vector {
         generation,
-        row: Row(row),
+        row: Row(u128::from(row)),
     })
 }

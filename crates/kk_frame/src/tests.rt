@@ -40,7 +40,7 @@ fn altered(at: usize, byte: u8) -> [u8; FRAME_BYTES]
 fn vector(generation: u32, row: u64) -> Result<Frame, FrameFault> {
     Ok(Frame::Vector {
         generation,
-        row: Row(row),
+        row: Row(u128::from(row)),
     })
 }
 

@@ -26,7 +26,9 @@ pub fn write_frame(frame: &Frame, ticket: &Ticket, bytes: &mut [u8; FRAME_BYTES]
 {
     let session = ticket.session();
     match *frame {
-        Frame::Vector { generation, row } => write_numbers(DATA, session, generation, row.0, bytes),
+        Frame::Vector { generation, row } => {
+            write_numbers(DATA, session, generation, row.0 as u64, bytes)
+        }
         Frame::End => write_numbers(END, session, 0, 0, bytes),
     }
 }

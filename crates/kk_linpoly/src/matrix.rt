@@ -9,7 +9,7 @@ use kk_tables::FieldTables;
 use std::marker::Model;
 
 /// How many columns a matrix can have.
-pub const MAX_COLUMNS: usize = 32;
+pub const MAX_COLUMNS: usize = 64;
 
 /// A row of a matrix over a field of characteristic 2, with the digits of four bits of its elements by their places.
 ///

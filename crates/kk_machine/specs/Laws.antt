@@ -1,6 +1,6 @@
 -- The laws of worlds and histories.
 use Rattle.std.specs.Prelude.{◌≡◌, ◌⊎◌, ℕ, ◌+◌, ◌<◌, ◌≤◌, List, [], ◌++◌, length, Contains, Option, Some, None}
-use Rattle.kk_rows.specs.declared.row_space.TheConstants.{MAX_WIDTH}
+use Rattle.kk_machine.specs.declared.log.TheConstants.{MAX_WIDTH}
 use Rattle.kk_rows.specs.Span.{in_span}
 use Rattle.kk_machine.specs.declared.moves.Move.{Move}
 use Rattle.kk_machine.specs.declared.call.Reply.{Reply}

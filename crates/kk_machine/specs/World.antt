@@ -1,6 +1,6 @@
 -- The world: the words, the actors, and what each of them has seen; and its moves.
 use Rattle.std.specs.Prelude.{◌≡◌, ◌≢◌, ℕ, ◌+◌, ◌^◌, ◌<◌, ◌≤◌, Bool, true, false, List, [], ◌∷◌, ◌++◌, length, replicate, slice_index_or, slice_set, Option, None}
-use Rattle.kk_rows.specs.declared.row_space.TheConstants.{MAX_WIDTH}
+use Rattle.kk_machine.specs.declared.log.TheConstants.{MAX_WIDTH}
 use Rattle.kk_machine.specs.declared.log.Log.{Log}
 use Rattle.kk_machine.specs.declared.call.Call.{Call}
 use Rattle.kk_machine.specs.declared.call.Call.TheVariants.{Insert, Freeze}

@@ -1,6 +1,6 @@
 //! The calls on the shared spaces, and their replies.
 ghost use Rattle.std.specs.Prelude.{◌≡◌, ◌≤◌, ◌↔◌, IsTrue};
-ghost use Rattle.kk_rows.specs.declared.row_space.TheConstants.{MAX_WIDTH};
+ghost use Rattle.kk_machine.specs.declared.log.TheConstants.{MAX_WIDTH};
 
 use super::CLOSED;
 use kk_rows::Row;
@@ -91,7 +91,7 @@ impl Call {
     }
 
     /// The word that the call changes a 0 to: the row, or [`CLOSED`]. A peek changes nothing, and has 0.
-    pub fn word(&self) -> u64
+    pub fn word(&self) -> u128
         ensures { result ≡ new_word self.now }
     {
         match *self {
@@ -103,7 +103,7 @@ impl Call {
 
     /// The word that a step for the call leaves where it found `found`: an exchange from 0 to the word of the call where
     /// `changing`, and else a load.
-    pub fn leaves(&self, changing: bool, found: u64) -> u64
+    pub fn leaves(&self, changing: bool, found: u128) -> u128
         ensures { result ≡ exchanged found (stored changing self.now) }
     {
         if changing && found == 0 {

@@ -12,7 +12,7 @@ mod tests;
 mod world;
 
 pub use call::{Call, Entry, Reply};
-pub use log::{CLOSED, Log};
+pub use log::{CLOSED, Log, MAX_WIDTH};
 pub use moves::Move;
 pub use sight::Sight;
 pub use spaces::Spaces;

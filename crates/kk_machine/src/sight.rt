@@ -2,13 +2,13 @@
 ghost use Rattle.std.specs.Prelude.{◌≡◌, ℕ, ◌≤◌, ◌<◌, ◌^◌, length, not, false, true};
 ghost use Rattle.kk_rows.specs.Span.{in_span};
 ghost use Rattle.kk_rows.specs.Rows.{numbers};
-ghost use Rattle.kk_rows.specs.declared.row_space.TheConstants.{MAX_WIDTH};
+ghost use Rattle.kk_machine.specs.declared.log.TheConstants.{MAX_WIDTH};
 ghost use Rattle.kk_machine.specs.Sights.{seen};
 ghost use Rattle.kk_machine.specs.Spaces.{log, unseen, reply_to, log_after, with_row, IsInWidth};
 ghost use Rattle.kk_machine.specs.Steps.{IsLog, sight_after, changes as changes_of, decided};
 
-use super::{CLOSED, Call, Reply};
-use kk_rows::{MAX_WIDTH, Row, RowSpace};
+use super::{CLOSED, Call, MAX_WIDTH, Reply};
+use kk_rows::{Row, RowSpace};
 use std::marker::Model;
 
 /// A log as far as it is known: the rows in the order in which they came, beside the [`RowSpace`] that they span.
@@ -120,7 +120,7 @@ impl Sight {
     }
 
     /// Takes in the word after the rows that are known: 0, [`CLOSED`], or a row that goes on with the log.
-    pub fn tell(&mut self, word: u64)
+    pub fn tell(&mut self, word: u128)
         requires { IsLog self.old.width (sight_after self.old.log word) }
         ensures { self.new ≡ seen self.old.width (sight_after self.old.log word) }
     {
@@ -133,7 +133,7 @@ impl Sight {
 
     /// What a step for `call` decides that found the word `found` after the rows that are known, where `changing` says
     /// whether the step was an exchange of 0 for the word of the call. `changes` is [`Sight::changes`] of the call.
-    pub fn decide(&self, changing: bool, changes: bool, found: u64, call: &Call) -> Option<Reply>
+    pub fn decide(&self, changing: bool, changes: bool, found: u128, call: &Call) -> Option<Reply>
         requires { changes ≡ changes_of self.now.log call.now }
         ensures { result ≡ decided changing self.now.log found call.now }
     {

@@ -1,7 +1,7 @@
 //! The sequential object: what one thread answers.
 ghost use Rattle.std.specs.Prelude.{◌≡◌, ◌≤◌, ◌<◌, length, IfOk};
 ghost use Rattle.kk_rows.specs.Rows.{numbers};
-ghost use Rattle.kk_rows.specs.declared.row_space.TheConstants.{MAX_WIDTH};
+ghost use Rattle.kk_machine.specs.declared.log.TheConstants.{MAX_WIDTH};
 ghost use Rattle.kk_machine.specs.Sights.{seen};
 ghost use Rattle.kk_machine.specs.Spaces.{log_in, with_log, new_spaces, generation_of, reply_to, log_after, IsInWidth};
 ghost use Rattle.kk_machine.specs.Steps.{IsLog, sight_after};
@@ -80,7 +80,7 @@ impl Spaces {
 
     /// Takes in the word after the rows of a generation that is in range: 0, [`crate::CLOSED`], or a row that goes on
     /// with the log.
-    pub fn tell(&mut self, generation: u32, word: u64)
+    pub fn tell(&mut self, generation: u32, word: u128)
         requires generation { generation < length self.old.logs }
         requires word { IsLog self.old.width (sight_after (log_in self.old generation) word) }
         ensures { self.new ≡ with_log self.old generation (sight_after (log_in self.old generation) word) }

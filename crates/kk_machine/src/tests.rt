@@ -68,21 +68,21 @@ fn rows_seen<'a>(rt: &impl Abort, world: &'a World, actor: u32) -> &'a [Row] {
     world.seen(actor, 0)
 }
 
-fn insert(row: u64) -> Call {
+fn insert(row: u128) -> Call {
     Call::Insert {
         generation: 0,
         row: Row(row),
     }
 }
 
-fn look(actor: u32, row: u64) -> Move {
+fn look(actor: u32, row: u128) -> Move {
     Move::Look {
         actor,
         call: insert(row),
     }
 }
 
-fn put(actor: u32, row: u64) -> Move {
+fn put(actor: u32, row: u128) -> Move {
     Move::Put {
         actor,
         generation: 0,

@@ -1,7 +1,7 @@
 //! The world: words, actors, and what each actor has seen, changed by one move at a time.
 ghost use Rattle.std.specs.Prelude.{◌≡◌, ◌≤◌, ◌<◌, ◌↔◌, ◌^◌, length, true, false, [], ◌∷◌, ◌++◌, IsTrue, IfOk, OnOk, OnErr};
 ghost use Rattle.kk_rows.specs.Rows.{numbers};
-ghost use Rattle.kk_rows.specs.declared.row_space.TheConstants.{MAX_WIDTH};
+ghost use Rattle.kk_machine.specs.declared.log.TheConstants.{MAX_WIDTH};
 ghost use Rattle.kk_machine.specs.Sights.{seen as sight_of};
 ghost use Rattle.kk_machine.specs.World.{new_world, actor as actor_in, sight, word, with_actors, newcomer, tried, tried_reply, moved, reply_by, IsPass, MayTry, May};
 
@@ -27,7 +27,7 @@ pub(crate) struct Actor {
 #[derive(Drop)]
 pub struct World {
     width: u32,
-    words: Vec<Vec<u64>>,
+    words: Vec<Vec<u128>>,
     actors: Vec<Actor>,
 }
 
@@ -51,7 +51,7 @@ impl World {
     {
         let mut words = Vec::with_capacity(alloc, generations as usize)?;
         for _ in 0..generations {
-            words.push(vec![in alloc; 0u64; width as usize + 1]?)?;
+            words.push(vec![in alloc; 0u128; width as usize + 1]?)?;
         }
         let founder = Actor {
             live: true,
@@ -120,7 +120,7 @@ impl World {
     }
 
     /// The word at a place from 0 to the width.
-    pub fn word(&self, generation: u32, place: u32) -> u64
+    pub fn word(&self, generation: u32, place: u32) -> u128
         requires generation { generation < length self.now.words }
         requires place { place ≤ self.now.width }
         ensures { result ≡ word self.now generation place }

@@ -5,7 +5,7 @@ use Rattle.std.specs.Int.{bit_at}
 use Rattle.std.specs.Int.Bits.{xor_self}
 use Rattle.std.proofs.Math.Pow.{pow_mono}
 use Rattle.std.proofs.lemmas.Bool.{cases_order}
-use Rattle.std.proofs.lemmas.List.{set_split, take-map, drop-map, map-append, take-append-drop, drop-drop}
+use Rattle.std.proofs.lemmas.List.{set_split, drop-map, map-append, take-append-drop, drop-drop}
 use Rattle.std.proofs.lemmas.List.Elements.{All-head, All-tail, All-map}
 use Rattle.kk_rows.specs.declared.rows.Row.{Row}
 use Rattle.kk_rows.specs.Rows.{numbers}
@@ -14,7 +14,6 @@ use Rattle.kk_rows.specs.Span.{in_span}
 use Rattle.kk_rows.proofs.Spans.{in_span-zero}
 use Rattle.kk_rows.proofs.Leading.{bit_cases, zero_is_not_one, power_le, leading_bit}
 use Rattle.kk_rows.proofs.Reduced.{All-parts, cleared_at, lead_kept, inserted_is_reduced, inserted_below, inserted_leads, inserted_spans}
-use Rattle.kk_rows.proofs.RowLists.{numbers-map_cleared}
 
 module _ (w : ℕ) (some : 0 < w) where
   -- a row below w has a 0 at its leading bit, and stays
@@ -89,7 +88,7 @@ module _ (w : ℕ) (some : 0 < w) where
 
 -- the rows after the move, with v at the place that is left
 pub moved_numbers : (old moved : List Row) (v : Row) (p : ℕ) → p < length moved
-    → take p moved ≡ map (λ row. record { 0 = cleared row.0 v.0 }) (take p (drop 1 old)) → drop (p + 1) moved ≡ drop (p + 1) old
+    → numbers (take p moved) ≡ map (λ r. cleared r v.0) (take p (numbers (drop 1 old))) → drop (p + 1) moved ≡ drop (p + 1) old
     → numbers (set moved p v) ≡ map (λ r. cleared r v.0) (take p (numbers (drop 1 old))) ++ v.0 ∷ drop p (numbers (drop 1 old))
 moved_numbers old moved v p within front back =
     let N : List Row → List ℕ = numbers in
@@ -97,8 +96,6 @@ moved_numbers old moved v p within front back =
     let rows = drop 1 old in
     let after : drop (suc p) moved ≡ drop p rows =
     ap (λ k. drop k moved) (sym (add-one p)) ∙ back ∙ ap (λ k. drop k old) (omega arith) ∙ sym (drop-drop p 1 old) in
-    let front_numbers : numbers (take p moved) ≡ map (λ r. cleared r v.0) (take p (numbers rows)) =
-    ap N front ∙ numbers-map_cleared (take p rows) v.0 ∙ ap (map (λ r. cleared r v.0)) (sym (take-map f p rows)) in
     ap N (set_split moved p v within)
     ∙ map-append f (take p moved) (v ∷ drop (suc p) moved)
-    ∙ ap₂ (λ a b. a ++ v.0 ∷ b) front_numbers (ap N after ∙ sym (drop-map f p rows))
+    ∙ ap₂ (λ a b. a ++ v.0 ∷ b) front (ap N after ∙ sym (drop-map f p rows))

@@ -1,11 +1,13 @@
 -- The leading bits of the rows of a space, in one word.
-use Rattle.std.proofs.Common.{◌≡◌, ℕ, ◌+◌, ◌*◌, ◌%◌, ◌^◌, ◌<◌, ◌≤◌, List, [], ◌∷◌, fold, min, max, inl, inr, w64, refl, sym, ap, ◌∙◌, subst, arith}
+use Rattle.std.proofs.Common.{◌≡◌, ℕ, add-one, ◌+◌, ◌*◌, ◌%◌, ◌^◌, ◌<◌, ◌≤◌, List, [], ◌∷◌, fold, min, max, inl, inr, refl, sym, ap, ◌∙◌, arith}
 use Rattle.std.specs.Prelude.{All}
 use Rattle.std.specs.Int.{bit_at}
 use Rattle.std.specs.Int.Bits.{bit_and, bit_or}
-use Rattle.std.proofs.lemmas.Nat.Bits.{bit_at_and, bit_at_or, bit_at-zero, bit_at-lt, bit_at_set_same}
+use Rattle.std.proofs.lemmas.Nat.Bits.{bit_at_and, bit_at_or, bit_at-zero, bit_at-lt, bit_at-pow_same}
 use Rattle.std.proofs.lemmas.List.Elements.{All-nil, All-cons, All-head, All-tail, All-weaker}
 use Rattle.std.proofs.Math.Pow.{pow_mono}
+use Rattle.std.proofs.Math.Nat.{two-pow-succ}
+use Rattle.std.proofs.lemmas.Nat.{one_shl}
 use Rattle.std.proofs.lemmas.Bool.{cases_order}
 use Rattle.kk_rows.specs.Echelon.{IsLeadingBit, IsClear, IsClearAt, HasLeads, cleared}
 use Rattle.kk_rows.proofs.Leading.{leading_bit, power_le, zero_is_not_one}
@@ -50,7 +52,19 @@ lead_is w p q lead least most = elim (cases_order p q) [
   ]
 ]
 
-pub one_more_lead : (leads w q : ℕ) → q < 64 → 2 ^ q ≤ w → w < 2 ^ (q + 1) → HasLeads (bit_or leads (1 * 2 ^ q % 2 ^ 64)) (w ∷ [])
-one_more_lead leads w q few least most =
-    let P : ℕ → Type 0 = λ row. (p : ℕ) → IsLeadingBit row p → bit_at (bit_or leads (1 * 2 ^ q % 2 ^ 64)) p ≡ 1 in
-    All-cons P w [] (λ p lead. subst (λ n. bit_at (bit_or leads (1 * 2 ^ q % 2 ^ 64)) n ≡ 1) (sym (lead_is w p q lead least most)) (bit_at_set_same w64 leads q few)) (All-nil P)
+-- the leading bit alone, as a word is shifted to it
+pub lead_alone : (w p q n : ℕ) → q < n → IsLeadingBit w p → 2 ^ q ≤ w → w < 2 * 2 ^ q → 1 * 2 ^ q % 2 ^ n ≡ 2 ^ p
+lead_alone w p q n few lead least most =
+    let next : w < 2 ^ (q + 1) = omega (arith, most, two-pow-succ q, ap (λ n. 2 ^ n) (add-one q)) in
+    one_shl q n few ∙ ap (λ k. 2 ^ k) (sym (lead_is w p q lead least next))
+
+-- it leads the row among the leading bits
+pub one_more_lead : (leads w more : ℕ) → ((p : ℕ) → IsLeadingBit w p → more ≡ 2 ^ p) → HasLeads (bit_or leads more) (w ∷ [])
+one_more_lead leads w more alone =
+    let P : ℕ → Type 0 = λ row. (p : ℕ) → IsLeadingBit row p → bit_at (bit_or leads more) p ≡ 1 in
+    All-cons P w [] (λ p lead. ap (λ m. bit_at (bit_or leads m) p) (alone p lead) ∙ omega (arith, bit_at_or leads (2 ^ p) p, bit_at-pow_same p, bit_at-lt leads p)) (All-nil P)
+
+-- rows of a space fit words that are as wide
+pub fits_word : (width bits : ℕ) (rows : List ℕ) → width ≤ bits → All (λ row. row < 2 ^ width) rows → All (λ row. row < 2 ^ bits) rows
+fits_word width bits rows wide each =
+    let m : 2 ^ width ≤ 2 ^ bits = pow_mono wide in All-weaker (λ row. row < 2 ^ width) (λ row. row < 2 ^ bits) (λ row below. omega (arith, below, m)) rows each

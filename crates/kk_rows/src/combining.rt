@@ -15,7 +15,7 @@ pub fn combination(rows: &[Row], word: u64) -> Row
     let mut sum = 0;
     let mut bits = word;
     for row in rows {
-        sum ^= (bits % 2) * row.0;
+        sum ^= u128::from(bits % 2) * row.0;
         bits /= 2;
     }
     Row(sum)

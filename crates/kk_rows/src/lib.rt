@@ -1,4 +1,4 @@
-//! Row spaces over GF(2): the span of a few rows of at most 63 bits, kept in reduced row echelon form.
+//! Row spaces over GF(2): the span of a few rows of at most 128 bits, kept in reduced row echelon form.
 //!
 //! A [`Row`] is a number: bit i is its coordinate i, and the sum of two rows is their exclusive or.
 #![tactic(auto)]
@@ -12,6 +12,7 @@ mod rows;
 #[cfg(test)]
 mod tests;
 mod traced;
+mod word;
 
 pub use combining::combination;
 pub use errors::Alloc;

@@ -9,10 +9,11 @@ ghost use Rattle.kk_rows.specs.declared.row_space.TheConstants.{MAX_WIDTH};
 use super::Row;
 use super::echelon::{insert_row, remainder};
 use super::traced::Traced;
+use super::word::Word;
 use std::marker::Model;
 
 /// The width of the widest rows, and so the largest rank.
-pub const MAX_WIDTH: u32 = 63;
+pub const MAX_WIDTH: u32 = 128;
 
 /// The span of the rows inserted so far, in the space of the rows below 2^width.
 ///
@@ -27,7 +28,7 @@ pub struct RowSpace {
     width: u32,
     rank: u32,
     // 1 at the leading bit of each row
-    leads: u64,
+    leads: u128,
     rows: [Row; MAX_WIDTH as usize],
 }
 
@@ -38,13 +39,13 @@ impl Model for RowSpace {
 
     ghost Value = { Space };
 
-    ghost view = { λ s. record { width = s.width; rows = numbers (drop (63 - s.rank) s.rows) } };
+    ghost view = { λ s. record { width = s.width; rows = numbers (drop (128 - s.rank) s.rows) } };
 
-    ghost invariant = { λ s. IsRowSpace s.width s.rank s.leads (numbers (drop (63 - s.rank) s.rows)) };
+    ghost invariant = { λ s. IsRowSpace s.width s.rank s.leads (numbers (drop (128 - s.rank) s.rows)) };
 }
 
 impl RowSpace {
-    /// The span of no row, 0 alone, in the space of the rows below 2^n, where n is from 1 to 63.
+    /// The span of no row, 0 alone, in the space of the rows below 2^n, where n is from 1 to 128.
     pub fn new(n: u32) -> RowSpace
         requires some { 1 ≤ n }
         requires fits { n ≤ MAX_WIDTH }
@@ -95,10 +96,26 @@ impl RowSpace {
         ensures zero { result.0 ≡ 0 ↔ IsTrue (in_span self.now.rows v.0) }
         ensures below { result.0 < 2 ^ self.now.width }
     {
+        if self.width <= u64::BITS {
+            self.reduce_in::<u64>(v)
+        } else {
+            self.reduce_in::<u128>(v)
+        }
+    }
+
+    /// [`RowSpace::reduce`] in words that hold the rows.
+    fn reduce_in<W: Word>(&self, v: Row) -> Row
+        requires word { self.now.width ≤ W.bits }
+        requires v_fits { v.0 < 2 ^ self.now.width }
+        ensures difference { IsTrue (in_span self.now.rows (bit_xor v.0 result.0)) }
+        ensures clear { IsClear self.now.rows result.0 }
+        ensures zero { result.0 ≡ 0 ↔ IsTrue (in_span self.now.rows v.0) }
+        ensures below { result.0 < 2 ^ self.now.width }
+    {
         if v.0 & self.leads == 0 {
             return v;
         }
-        remainder(&self.rows[(MAX_WIDTH - self.rank) as usize..], v)
+        remainder::<W>(&self.rows[(MAX_WIDTH - self.rank) as usize..], v)
     }
 
     /// Whether `v`, which is below 2^width, is a sum of rows of the space.
@@ -120,13 +137,31 @@ impl RowSpace {
         ensures span { (x : ℕ) → in_span self.new.rows x ≡ in_span (self.old.rows ++ v.0 ∷ []) x }
         ensures width { self.new.width ≡ self.old.width }
     {
-        let remainder = self.reduce(v);
+        if self.width <= u64::BITS {
+            self.insert_in::<u64>(v)
+        } else {
+            self.insert_in::<u128>(v)
+        }
+    }
+
+    /// [`RowSpace::insert`] in words that hold the rows.
+    fn insert_in<W: Word>(&mut self, v: Row) -> Option<u32>
+        requires word { self.old.width ≤ W.bits }
+        requires v_fits { v.0 < 2 ^ self.old.width }
+        ensures outside { IsSome result ↔ (in_span self.old.rows v.0 ≡ false) }
+        ensures rank { IfSome result (λ n. n ≡ dimension self.old.rows + 1) }
+        ensures new_rank { IfSome result (λ n. n ≡ dimension self.new.rows) }
+        ensures same { IfNone result (self.new ≡ self.old) }
+        ensures span { (x : ℕ) → in_span self.new.rows x ≡ in_span (self.old.rows ++ v.0 ∷ []) x }
+        ensures width { self.new.width ≡ self.old.width }
+    {
+        let remainder = self.reduce_in::<W>(v);
         if remainder.0 == 0 {
             return None;
         }
         let start = (MAX_WIDTH - self.rank) as usize;
-        insert_row(&mut self.rows[start - 1..], remainder);
-        self.leads |= 1 << remainder.0.ilog2();
+        insert_row::<W>(&mut self.rows[start - 1..], remainder);
+        self.leads |= W::of(remainder).leading_bit();
         self.rank += 1;
         Some(self.rank)
     }
@@ -244,13 +279,35 @@ mod tests {
     }
 
     #[test]
+    fn rows_of_one_word_and_of_a_bit_more_fit(rt: HostRuntime) -> Result<(), Fail> {
+        let mut word = RowSpace::new(64);
+        assert_eq!(rt; word.insert(Row(0xffff_ffff_ffff_ffff)), Some(1));
+        assert_eq!(rt; word.insert(Row(1)), Some(2));
+        assert_eq!(rt;
+            word.rows(),
+            [Row(0xffff_ffff_ffff_fffe), Row(1)].as_slice()
+        );
+        let mut more = RowSpace::new(65);
+        assert_eq!(rt; more.insert(Row(0x1_0000_0000_0000_0001)), Some(1));
+        assert_eq!(rt; more.insert(Row(1)), Some(2));
+        assert_eq!(rt;
+            more.rows(),
+            [Row(0x1_0000_0000_0000_0000), Row(1)].as_slice()
+        );
+        Ok(())
+    }
+
+    #[test]
     fn the_widest_rows_fit(rt: HostRuntime) -> Result<(), Fail> {
-        let mut space = RowSpace::new(63);
-        assert_eq!(rt; space.insert(Row(0x7fff_ffff_ffff_ffff)), Some(1));
+        let mut space = RowSpace::new(128);
+        assert_eq!(rt;
+            space.insert(Row(0xffff_ffff_ffff_ffff_ffff_ffff_ffff_ffff)),
+            Some(1)
+        );
         assert_eq!(rt; space.insert(Row(1)), Some(2));
         assert_eq!(rt;
             space.rows(),
-            [Row(0x7fff_ffff_ffff_fffe), Row(1)].as_slice()
+            [Row(0xffff_ffff_ffff_ffff_ffff_ffff_ffff_fffe), Row(1)].as_slice()
         );
         Ok(())
     }

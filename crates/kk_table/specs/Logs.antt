@@ -1,6 +1,6 @@
 -- What a finished table leaves.
 use Rattle.std.specs.Prelude.{◌≡◌, ℕ, ◌≤◌, ◌<◌, List, [], length, Contains, slice_index_or}
-use Rattle.kk_rows.specs.declared.row_space.TheConstants.{MAX_WIDTH}
+use Rattle.kk_machine.specs.declared.log.TheConstants.{MAX_WIDTH}
 use Rattle.kk_machine.specs.declared.log.Log.{Log}
 use Rattle.kk_machine.specs.declared.call.Entry.{Entry}
 use Rattle.kk_machine.specs.Spaces.{unseen}

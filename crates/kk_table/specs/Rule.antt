@@ -3,7 +3,7 @@ use Rattle.std.specs.Prelude.{◌≡◌, ℕ, suc, ◌+◌, ◌<◌, ◌≤◌, 
 use mathlib.Core.Option.{some}
 use lib.ListN.{get_elem?}
 use Rattle.atomic_table.specs.Table.{State}
-use Rattle.kk_rows.specs.declared.row_space.TheConstants.{MAX_WIDTH}
+use Rattle.kk_machine.specs.declared.log.TheConstants.{MAX_WIDTH}
 use Rattle.kk_machine.specs.declared.log.Log.{Log}
 use Rattle.kk_machine.specs.declared.call.Call.{Call}
 use Rattle.kk_machine.specs.declared.call.Entry.{Entry}

@@ -1,7 +1,7 @@
 -- A table as clauses see it.
 use Rattle.std.specs.Prelude.{◌≡◌, ◌<◌, ◌≤◌}
 use Rattle.atomic_table.specs.Seated.{TableId}
-use Rattle.kk_rows.specs.declared.row_space.TheConstants.{MAX_WIDTH}
+use Rattle.kk_machine.specs.declared.log.TheConstants.{MAX_WIDTH}
 use Rattle.kk_table.specs.declared.view.Shape.{Shape}
 use Rattle.kk_table.specs.Places.{place_of}
 use Rattle.kk_code.specs.Ticket.{TicketFields, generations}

@@ -1,6 +1,6 @@
 //! Who gives the passes of a table, and takes them back.
 ghost use Rattle.std.specs.Prelude.{◌≡◌, ◌+◌, ◌-◌, ◌<◌, ◌≤◌, ◌↔◌, length, Err, All, IsOk, IfOk, OnOk, OnErr};
-ghost use Rattle.kk_rows.specs.declared.row_space.TheConstants.{MAX_WIDTH};
+ghost use Rattle.kk_machine.specs.declared.log.TheConstants.{MAX_WIDTH};
 ghost use Rattle.kk_table.specs.Rule.{newcomer};
 ghost use Rattle.kk_table.specs.Founder.{IsSpare, founder_reserved, founder_gave, founder_took};
 

@@ -1,6 +1,6 @@
 //! The table, and the calls that threads make on it.
 ghost use Rattle.std.specs.Prelude.{◌≡◌, ◌+◌, ◌<◌, ◌≤◌, ◌^◌, [], ◌∷◌, ◌++◌, length, IfOk};
-ghost use Rattle.kk_rows.specs.declared.row_space.TheConstants.{MAX_WIDTH};
+ghost use Rattle.kk_machine.specs.declared.log.TheConstants.{MAX_WIDTH};
 ghost use Rattle.kk_machine.specs.Spaces.{generation_of, IsInWidth};
 ghost use Rattle.kk_machine.specs.History.{entry};
 ghost use Rattle.kk_machine.specs.declared.call.Call.TheVariants as calls;
@@ -59,7 +59,7 @@ impl GenTable {
         GenTable::with_shape(alloc, shape, passes)
     }
 
-    /// The same for rows of any kind: a table of this size. The width is from 1 to [`kk_rows::MAX_WIDTH`].
+    /// The same for rows of any kind: a table of this size. The width is from 1 to [`kk_machine::MAX_WIDTH`].
     pub fn with_shape(
         alloc: Global,
         shape: Shape,

@@ -58,7 +58,7 @@ fn read_log(closed: &Closed<(), Global>, shape: Shape, generation: u32, sight: &
 {
     let start = shape.first_word(generation);
     loop {
-        let word = closed.word(start + sight.len() as usize);
+        let word = u128::from(closed.word(start + sight.len() as usize));
         sight.tell(word);
         if word == 0 || word == CLOSED {
             return;

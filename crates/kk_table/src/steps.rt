@@ -1,5 +1,6 @@
 //! The two kinds of step of a pass. The aim names the call for the proof.
-ghost use Rattle.std.specs.Prelude.{◌≡◌, true, false, []};
+ghost use Rattle.std.specs.Prelude.{◌≡◌, ◌≤◌, true, false, []};
+ghost use Rattle.kk_machine.specs.declared.log.TheConstants.{MAX_WIDTH};
 ghost use Rattle.kk_machine.specs.Steps.{stored};
 ghost use Rattle.kk_table.specs.Rule.{Tried};
 ghost use Rattle.kk_table.specs.Pass.{IsAimed};
@@ -54,15 +55,17 @@ pub(crate) fn probe(
     changing: bool,
     call: Call,
     width: u32,
-) -> u64
+) -> u128
     requires table { seat.old.table_id ≡ shared.now.table_id }
+    requires narrow { width ≤ MAX_WIDTH }
     requires aimed { IsAimed shared.now.key width changing call seat.old.me word shared.now.table_id.words }
     ensures table { (seat.new.table_id ≡ seat.old.table_id) × (seat.new.me.1 ≡ []) }
     ensures tried { Tried width changing call seat.old.me.0 result seat.new.me.0 }
 {
     if changing {
-        change::<Brand>(shared, seat, word, call.word(), call, width)
+        let new = call.word() as u64;
+        u128::from(change::<Brand>(shared, seat, word, new, call, width))
     } else {
-        look::<Brand>(shared, seat, word, call, width)
+        u128::from(look::<Brand>(shared, seat, word, call, width))
     }
 }

@@ -1,6 +1,6 @@
 //! Tables that one thread and two threads call on.
 ghost use Rattle.std.specs.Prelude.{◌≡◌, ◌+◌, ◌*◌, ◌<◌, ◌≤◌, ◌^◌, true, false, All, IfOk, length};
-ghost use Rattle.kk_rows.specs.declared.row_space.TheConstants.{MAX_WIDTH};
+ghost use Rattle.kk_machine.specs.declared.log.TheConstants.{MAX_WIDTH};
 ghost use Rattle.kk_rows.specs.Rows.{numbers};
 ghost use Rattle.kk_rows.specs.Span.{in_span};
 ghost use Rattle.kk_table.specs.Rule.{sight};
@@ -202,7 +202,7 @@ fn an_insert_reads_on_from_what_is_seen(rt: HostRuntime) -> Result<(), Fail> {
 }
 
 /// Makes 100 calls, a third of them on each generation: inserts of rows that begin with this one, and peeks.
-fn call_often(table: &GenTable, pass: Pass, first: u64) -> Pass
+fn call_often(table: &GenTable, pass: Pass, first: u128) -> Pass
     requires table { pass.table ≡ table.now }
     requires near { 3 ≤ table.now.shape.generations }
     requires row { (table.now.shape.width ≡ 6) × (first < 2 ^ 5) }
@@ -214,7 +214,7 @@ fn call_often(table: &GenTable, pass: Pass, first: u64) -> Pass
         if i % 10 == 9 {
             let _ = table.peek(&mut pass, generation);
         } else {
-            let _ = table.insert(&mut pass, generation, Row(first + u64::from(i % 32)));
+            let _ = table.insert(&mut pass, generation, Row(first + u128::from(i % 32)));
         }
     }
     pass

@@ -1,6 +1,6 @@
 //! The report of a receiver with several gates.
 ghost use Rattle.std.specs.Prelude.{◌≡◌, ◌↔◌, ◌⊎◌, ◌≤◌, ◌++◌, IsErr, length};
-ghost use Rattle.kk_rows.specs.declared.row_space.TheConstants.{MAX_WIDTH};
+ghost use Rattle.kk_machine.specs.declared.log.TheConstants.{MAX_WIDTH};
 ghost use Rattle.kk_outside.specs.Causes.{HasCause, CanCount};
 ghost use Rattle.kk_outside.specs.Change.{change};
 ghost use Rattle.kk_outside.specs.Sink.{SinkFailed, WasGiven, WritesAllTo};

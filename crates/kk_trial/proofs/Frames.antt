@@ -30,7 +30,7 @@ trial_frames_are_frames t loss word ticket possible =
     let n = generations t in
     let c = t.code.l - loss.erase + loss.inject in
     let count = length-frames_from rows c (λ g. length-received_rows t loss word g ticket possible) 0 n in
-    let narrow : c ≤ MAX_WIDTH = omega (arith, possible.inject, ticket.code.wide) in
+    let narrow : c ≤ MAX_WIDTH = omega (arith, possible.inject, ticket.narrow.wide) in
     record {
       count = count;
       few = omega (arith, count, mul-le-mul ticket.few narrow);

@@ -3,7 +3,7 @@ ghost use Rattle.std.specs.Prelude.{◌≡◌, ◌+◌, ◌≤◌};
 ghost use Rattle.kk_code.specs.Codeword.{Parameters, width};
 
 use crate::draws::{Draws, mixed, mixed_all};
-use crate::spaces::{RECEPTIONS, Rows, spanned};
+use crate::spaces::{RECEPTIONS, Rows, spanned, word_of};
 use kk_code::{Code, Encoder, Message, encode_with};
 use kk_decode::{Scratch, decode_space};
 use kk_field::Steps;
@@ -60,7 +60,7 @@ pub(crate) fn interpolations<L: Ledger>(
 fn seen(rows: &[Row]) -> u64 {
     let mut sum = 0;
     for row in rows {
-        sum ^= row.0;
+        sum ^= word_of(*row);
     }
     sum
 }
@@ -107,7 +107,7 @@ fn sent(encoder: &Encoder, draws: &mut Draws) -> Rows
     let codeword = encoder.encode(&Message::from_slice(&draws.symbols()));
     let mut rows = [0; 24];
     for (word, row) in rows.iter_mut().zip(codeword.as_slice()) {
-        *word = row.0 << 9;
+        *word = word_of(*row) << 9;
     }
     rows
 }

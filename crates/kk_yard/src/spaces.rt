@@ -16,7 +16,7 @@ pub(crate) fn spanned(rows: &Rows) -> RowSpace
 {
     let mut space = RowSpace::new(55);
     for row in rows {
-        let _ = space.insert(Row(row >> 9));
+        let _ = space.insert(Row(u128::from(row >> 9)));
     }
     space
 }
@@ -25,16 +25,21 @@ pub(crate) fn spanned(rows: &Rows) -> RowSpace
 fn spanned_by_drawn(draws: &mut Draws) -> RowSpace {
     let mut space = RowSpace::new(63);
     for _ in 0..63 {
-        let _ = space.insert(Row(draws.bits(63)));
+        let _ = space.insert(Row(u128::from(draws.bits(63))));
     }
     space
+}
+
+/// The lowest 64 bits of a row.
+pub(crate) fn word_of(row: Row) -> u64 {
+    (row.0 % 0x1_0000_0000_0000_0000) as u64
 }
 
 /// The sum of the reduced rows and the rank.
 fn seen(space: &RowSpace) -> u64 {
     let mut sum = u64::from(space.rank());
     for row in space.rows() {
-        sum ^= row.0;
+        sum ^= word_of(*row);
     }
     sum
 }

@@ -23,18 +23,18 @@ kept_rows-passed-requires g c =
     let count = count_of c.args.code.now codeword_is.message slice.result.now c.args.rows.now slice.ensures.rows codeword_is.is_codeword in
     record {
       some = omega (arith, count, c.requires.erase);
-      few = omega (arith, count, c.l-l.ensures.in_range.wide);
+      few = omega (arith, count, c.l-l.ensures.in_range.l_high, c.l-l.ensures.in_range.m_high);
     }
 
-pub inject_rows-requires : goal.inject_rows-requires
-inject_rows-requires g c =
+pub inject_rows-requires-clause-room : goal.inject_rows-requires-clause-room
+inject_rows-requires-clause-room g c =
     let codeword_is = c.requires.codeword in
     let slice = c.as_slice-codeword in
     let rows = numbers slice.result.now in
     let word = word_at (g.R.Rng.stream c.args.rng.now) in
     let count = count_of c.args.code.now codeword_is.message slice.result.now c.args.rows.now slice.ensures.rows codeword_is.is_codeword in
     let kept = ap length c.kept_rows-passed.ensures.rows ∙ length-drop c.args.erase (mixed_rows word rows) in
-    omega (arith, count, kept, length-mixed_rows word rows, length-map slice.result.now (λ (r : Row). r.0), c.requires.inject, c.l-l.ensures.in_range.wide)
+    omega (arith, count, kept, length-mixed_rows word rows, length-map slice.result.now (λ (r : Row). r.0), c.requires.inject, c.l-l.ensures.in_range.l_high, c.l-l.ensures.in_range.m_high)
 
 pub returns : goal.returns
 returns g c =
@@ -65,3 +65,6 @@ returns g c =
       erased = λ v is. ap (λ (l : List ℕ). erased p l v) (passed_of v is) ∙ (loss_is_exact p code v word erase inject c.requires.erase c.requires.inject).erased_are;
       injected = λ v is. ap (λ (l : List ℕ). injected p l v) (passed_of v is) ∙ (loss_is_exact p code v word erase inject c.requires.erase c.requires.inject).injected_are;
     }
+
+pub inject_rows-requires-clause-few : goal.inject_rows-requires-clause-few
+inject_rows-requires-clause-few g c = omega (arith, c.requires.inject, c.l-l.ensures.in_range.m_high)

@@ -13,7 +13,7 @@ pub loop-c-init : goal.loop-c-init
 loop-c-init g c = record {
   long = refl;
   done = λ i less. absurd (omega (arith, less));
-  over = All-replicate (λ a. a < 2 ^ c.args.field.now.degree) 32 0 (pow_pos c.args.field.now.degree);
+  over = All-replicate (λ a. a < 2 ^ c.args.field.now.degree) 64 0 (pow_pos c.args.field.now.degree);
   counted = omega arith;
 }
 

@@ -5,7 +5,7 @@ use Rattle.kk_decode.proofs.basis.column_values.Given as goal
 
 abbrev pub invariant-loop-c : goal.invariant-loop-c
 invariant-loop-c g l = record {
-  long : length l.values ≡ 32;
+  long : length l.values ≡ 64;
   done : (i : ℕ) → i < l.c → slice_index l.values i ≡ column_value l.field l.rows l.k i l.x;
   over : IsOver l.field.degree l.values;
   counted : l.steps ≤ l.initial.steps + l.c * l.k;

@@ -16,12 +16,12 @@ returns-clause-basis g c told =
     let k_is : k ≡ p.k = c.k-k.ensures.symbols in
     let l_is : c.l.result ≡ p.l = c.l.ensures.points in
     let units = c.if-not-are_units.ensures in
-    let long : length rows ≡ 31 = e.count ∙ c.put_weights.ensures.count ∙ c.told-rows in
+    let long : length rows ≡ 64 = e.count ∙ c.put_weights.ensures.count ∙ c.told-rows in
     let same : (d x : ℕ) → column_value p.field rows p.k d x ≡ column_value f tested k d x = λ d x.
     ap (λ q. column_value q rows p.k d x) (sym c.requires) ∙ ap (λ n. column_value f rows n d x) (sym k_is)
     ∙ column_value-same f rows tested k d x e.first in
     record {
-      count = omega (arith, long, l_is, c.l.ensures.in_range.l_high, c.l.ensures.in_range.wide);
+      count = omega (arith, long, l_is, c.l.ensures.in_range.l_high, c.l.ensures.in_range.m_high);
       of_field = λ j less. subst (λ q. IsOver q.degree (get_or rows j [])) c.requires (e.of_field j (omega (arith, less, l_is)));
       one = λ d less. same d (2 ^ d) ∙ units.one refl d (omega (arith, less, k_is));
       zeros = λ d i less inside apart. same d (2 ^ i) ∙ units.zeros refl d i (omega (arith, less, k_is)) (omega (arith, inside, k_is)) apart;

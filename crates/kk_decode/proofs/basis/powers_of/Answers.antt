@@ -13,7 +13,7 @@ loop-j-init g c = record {
   power_is = sym (frobenius_start c.args.field.now c.args.x);
   power_below = c.requires.x_below;
   done = λ i less. absurd (omega (arith, less));
-  over = All-replicate (λ a. a < 2 ^ c.args.field.now.degree) 32 0 (pow_pos c.args.field.now.degree);
+  over = All-replicate (λ a. a < 2 ^ c.args.field.now.degree) 64 0 (pow_pos c.args.field.now.degree);
   counted = omega arith;
 }
 

@@ -26,10 +26,10 @@ loop-i-preserved g c =
     let inv = c.loop-i.invariant in
     let values = c.column_values-values.result in
     let P : ℕ → Type 0 = λ a. a < 2 ^ f.degree in
-    let some : List ℕ = replicate {A = ℕ} (32 - length (take k values)) 0 in
+    let some : List ℕ = replicate {A = ℕ} (64 - length (take k values)) 0 in
     let over : IsOver f.degree row =
     subst (IsOver f.degree) (sym c.of.ensures.value)
-    (All-append P (take k values) some (All-take P k values c.column_values-values.ensures.below) (All-replicate P (32 - length (take k values)) 0 (pow_pos f.degree))) in
+    (All-append P (take k values) some (All-take P k values c.column_values-values.ensures.below) (All-replicate P (64 - length (take k values)) 0 (pow_pos f.degree))) in
     let room : n < length rows = omega (arith, inv.long, c.loop-i-test.true, c.requires.within) in
     let other : (j : ℕ) → j < n → get_or (set rows n row) j [] ≡ get_or rows j [] = λ j less. get_or-set_other rows n j row [] (λ e. omega (arith, e, less)) in
     let count : length (take k values) ≡ k = length-take-le k values (omega (arith, inv.past, c.loop-i-test.true, c.requires.within)) in

@@ -5,7 +5,7 @@ use Rattle.kk_decode.proofs.basis.put_others.Given as goal
 
 abbrev pub invariant-loop-i : goal.invariant-loop-i
 invariant-loop-i g l = record {
-  long : length l.rows ≡ 31;
+  long : length l.rows ≡ 64;
   past : l.k ≤ l.i;
   first : (j : ℕ) → j < l.k → get_or l.rows j [] ≡ get_or l.fn.rows j [];
   of_field : (j : ℕ) → j < l.i → IsOver l.field.degree (get_or l.rows j []);

@@ -16,9 +16,9 @@ loop-j-preserved g c =
     let weights = get_or c.weights-weights.result j [] in
     let over : IsOver m row =
     subst (IsOver m) (sym c.of.ensures.value)
-    (All-append P (take c.args.k weights) (replicate (32 - length (take c.args.k weights)) 0)
+    (All-append P (take c.args.k weights) (replicate (64 - length (take c.args.k weights)) 0)
     (All-take P c.args.k weights (All-get_or (IsOver m) c.weights-weights.result j [] (omega (arith, c.loop-j-test.true, c.requires)) c.weights-weights.ensures.below))
-    (All-replicate P (32 - length (take c.args.k weights)) 0 (pow_pos m))) in
+    (All-replicate P (64 - length (take c.args.k weights)) 0 (pow_pos m))) in
     record {
       long = length-set rows j row ∙ c.loop-j.invariant.long;
       of_field = λ i less. elim (cases_lt i j) [

@@ -4,6 +4,6 @@ use Rattle.kk_decode.proofs.basis.put_weights.Given as goal
 
 abbrev pub invariant-loop-j : goal.invariant-loop-j
 invariant-loop-j g l = record {
-  long : length l.rows ≡ 31;
+  long : length l.rows ≡ 64;
   of_field : (i : ℕ) → i < l.j → IsOver l.field.degree (get_or l.rows i []);
 }

@@ -71,7 +71,7 @@ give-requires-2-clause-room g c =
       range.k_high,
       range.l_high,
       range.m_high,
-      range.wide,
+      range.m_high,
       c.requires.few,
       c.requires.width,
       c.requires.enough,
@@ -101,7 +101,7 @@ pub candidate-requires-clause-few : goal.candidate-requires-clause-few
 candidate-requires-clause-few g c =
     let at = goal.at.candidate-requires-clause-few g c in
     let range = c.k-k.ensures.in_range in
-    omega (arith, point_count g at.After-give-2, range.wide, c.requires.few, c.requires.width, range.k_high, range.l_high, range.m_high)
+    omega (arith, point_count g at.After-give-2, range.m_high, c.requires.few, c.requires.width, range.k_high, range.l_high, range.m_high)
 
 -- ---- the answers
 

@@ -49,8 +49,8 @@ insert-requires g c =
     let x = c.parts-x.result.0 in
     let small : c.eval.result < 2 ^ f.degree =
     subst (λ y. y < 2 ^ f.degree) (sym (value_is g (goal.at.insert-requires g c).After-eval)) (value-lt f c.m.ensures.in_range.low c.args.u.now x) in
-    subst (λ w. bit_xor c.parts-x.result.1 c.eval.result < 2 ^ w) (sym c.loop-row.invariant.wide)
-    (xor_lt f.degree c.parts-x.result.1 c.eval.result c.parts-x.ensures.y_below small)
+    subst (λ w. c.from.result < 2 ^ w) (sym c.loop-row.invariant.wide)
+    (subst (λ n. n < 2 ^ f.degree) (sym c.from.ensures) (xor_lt f.degree c.parts-x.result.1 c.eval.result c.parts-x.ensures.y_below small))
 
 pub loop-row-preserved : goal.loop-row-preserved
 loop-row-preserved g c =
@@ -60,9 +60,9 @@ loop-row-preserved g c =
     let i = c.loop-row.row-index in
     let row = (get_or items i (record { 0 = 0 })).0 in
     let images : List ℕ → List ℕ = map (offset f u) in
-    let v = bit_xor c.parts-x.result.1 c.eval.result in
+    let v = c.from.result in
     let v_is : v ≡ offset f u row =
-    ap₂ bit_xor c.parts-x.ensures.y (value_is g (goal.at.loop-row-preserved g c).After-eval ∙ ap (value f u) c.parts-x.ensures.x) in
+    c.from.ensures ∙ ap₂ bit_xor c.parts-x.ensures.y (value_is g (goal.at.loop-row-preserved g c).After-eval ∙ ap (value f u) c.parts-x.ensures.x) in
     let more : images (numbers (take i items)) ++ v ∷ [] ≡ images (numbers (take (i + 1) items)) =
     ap (λ y. images (numbers (take i items)) ++ y ∷ []) v_is
     ∙ sym (map-append (offset f u) (numbers (take i items)) (row ∷ [])) ∙ ap images (sym (numbers-take_more items i c.loop-row-test.true)) in

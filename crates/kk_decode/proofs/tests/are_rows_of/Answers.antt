@@ -1,11 +1,11 @@
-use Rattle.std.proofs.Common.{ℕ, ◌+◌, ◌^◌, ◌<◌, take, get_or, sym, subst}
+use Rattle.std.proofs.Common.{ℕ, ◌+◌, ◌-◌, ◌^◌, ◌<◌, take, get_or, sym, ap, subst, arith}
 use Rattle.std.specs.Prelude.{All}
 use Rattle.std.proofs.lemmas.List.{take_all}
 use Rattle.std.proofs.lemmas.List.Elements.{All-push}
 use Rattle.kk_rows.specs.Rows.{numbers}
 use Rattle.kk_rows.proofs.RowLists.{numbers-take_more}
 use Rattle.kk_code.specs.Codeword.{width}
-use Rattle.kk_decode.proofs.Rows.{below_from_shift}
+use Rattle.kk_decode.proofs.Rows.{below_from_top}
 use Rattle.kk_decode.proofs.tests.are_rows_of.Goals as goal
 
 pub loop-row-preserved : goal.loop-row-preserved
@@ -15,7 +15,7 @@ loop-row-preserved c =
     let i = c.loop-row.row-index in
     let row = (get_or rows i (record { 0 = 0 })).0 in
     let P : ℕ → Type 0 = λ r. r < 2 ^ w in
-    let here : row < 2 ^ w = subst (λ n. row < 2 ^ n) c.width-width.ensures.bits (below_from_shift row c.width-width.result c.if-row-width-ne0.false) in
+    let here : row < 2 ^ w = below_from_top row (c.width-top.result - 1) w (omega (arith, c.width-top.ensures.in_range.m_low)) (ap (λ n. n - 1) c.width-top.ensures.bits) (omega (arith, c.if-row-top-gt1.false)) in
     record {
       below = subst (All P) (sym (numbers-take_more rows i c.loop-row-test.true)) (All-push P (numbers (take i rows)) row c.loop-row.invariant.below here);
     }

@@ -1,10 +1,10 @@
-use Rattle.std.proofs.Common.{◌≡◌, ℕ, ◌+◌, ◌^◌, ◌<◌, ◌++◌, [], ◌∷◌, take, get_or, length, sym, ap, ◌∙◌, subst, add-one, arith}
+use Rattle.std.proofs.Common.{◌≡◌, ℕ, ◌+◌, ◌-◌, ◌^◌, ◌<◌, ◌++◌, [], ◌∷◌, take, get_or, length, sym, ap, ◌∙◌, subst, add-one, arith}
 use Rattle.std.specs.Prelude.{All}
 use Rattle.std.proofs.Math.Seq.{take-suc}
 use Rattle.std.proofs.lemmas.List.{take_all}
 use Rattle.std.proofs.lemmas.List.Elements.{All-push}
 use Rattle.kk_code.specs.Codeword.{IsMessage}
-use Rattle.kk_decode.proofs.Rows.{below_from_shift}
+use Rattle.kk_decode.proofs.Rows.{below_from_top}
 use Rattle.kk_decode.proofs.tests.message.Goals as goal
 
 pub loop-symbol-preserved : goal.loop-symbol-preserved
@@ -14,7 +14,7 @@ loop-symbol-preserved c =
     let i = c.loop-symbol.symbol-index in
     let s = get_or symbols i 0 in
     let P : ℕ → Type 0 = λ s. s < 2 ^ m in
-    let here : s < 2 ^ m = subst (λ n. s < 2 ^ n) c.m-m.ensures.degree (below_from_shift s c.m-m.result c.if-symbol-m-ne0.false) in
+    let here : s < 2 ^ m = below_from_top s (c.m-top.result - 1) m (omega (arith, c.m-top.ensures.in_range.m_low)) (ap (λ n. n - 1) c.m-top.ensures.degree) (omega (arith, c.if-symbol-top-gt1.false)) in
     let more : take (i + 1) symbols ≡ take i symbols ++ s ∷ [] = ap (λ n. take n symbols) (add-one i) ∙ take-suc symbols i 0 c.loop-symbol-test.true in
     record { below = subst (All P) (sym more) (All-push P (take i symbols) s c.loop-symbol.invariant.below here) }
 

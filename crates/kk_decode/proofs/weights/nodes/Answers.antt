@@ -10,7 +10,7 @@ loop-j-init g c =
     let value = c.m.ensures.value in
     let at_least_one = c.m.ensures.one_or_more in
     record {
-      over = IsOver-zeros m 32;
+      over = IsOver-zeros m 65;
       node_below = elim c.if-m-gt1.branch [
         | then-m-gt1 w ↦ subst (λ x. x < 2 ^ m) (sym w.node-is) (pow-lt {i = 1} (omega (arith, w.if-m-gt1, value)))
         | else-m-gt1 w ↦ subst (λ x. x < 2 ^ m) (sym w.node-is) (pow-lt {i = 0} (omega (arith, value, at_least_one)))

@@ -7,7 +7,7 @@ use Rattle.kk_decode.proofs.weights.quotient.Goals as goal
 pub loop-i-init : goal.loop-i-init
 loop-i-init g c =
     let m = c.args.field.now.degree in
-    record { over = IsOver-zeros m 32; higher_below = pow_pos m; counted = omega arith }
+    record { over = IsOver-zeros m 65; higher_below = pow_pos m; counted = omega arith }
 
 pub loop-i-preserved : goal.loop-i-preserved
 loop-i-preserved g c =

@@ -9,7 +9,7 @@ pub loop-j-init : goal.loop-j-init
 loop-j-init g c =
     let m = c.args.field.now.degree in
     let k = c.args.k in
-    let long : length c.nodes-nodes.result ≡ 32 = omega (arith, c.nodes-nodes.type_inv) in
+    let long : length c.nodes-nodes.result ≡ 65 = omega (arith, c.nodes-nodes.type_inv) in
     let count : length (take k c.nodes-nodes.result) ≡ k = length-take-le k c.nodes-nodes.result (omega (arith, c.requires, long)) in
     let cost = subst (λ n. c.vanishing-zeros_at.new.steps ≤ c.nodes-nodes.new.steps + n * (n + 1)) count c.vanishing-zeros_at.ensures.cost in
-    record { over = All-replicate (IsOver m) 31 (replicate 32 0) (IsOver-zeros m 32); counted = omega (arith, c.nodes-nodes.ensures.cost, cost) }
+    record { over = All-replicate (IsOver m) 64 (replicate 65 0) (IsOver-zeros m 65); counted = omega (arith, c.nodes-nodes.ensures.cost, cost) }

@@ -13,7 +13,7 @@ use Rattle.kk_decode.proofs.whole.values_of.Goals as goal
 pub loop-t-init : goal.loop-t-init
 loop-t-init c = record {
   long = refl;
-  over = All-replicate (λ a. a < 2 ^ c.args.code.now.field.degree) 31 0 (pow_pos c.args.code.now.field.degree);
+  over = All-replicate (λ a. a < 2 ^ c.args.code.now.field.degree) 64 0 (pow_pos c.args.code.now.field.degree);
   x = λ i less. absurd (omega (arith, less));
   y = λ i less. absurd (omega (arith, less));
 }
@@ -59,6 +59,6 @@ loop-t-preserved c =
             let e : i ≡ t = omega (arith, inside, here) in
             rw e (ap (λ r. r % n) (sym row) ∙ sym c.parts-x.ensures.y
             ∙ sym (ap (slice_index (set values place y)) (sym place_is)
-            ∙ get_or-set_same values place y 0 (omega (arith, inv.long, place_is, less, range.l_high, range.wide))))
+            ∙ get_or-set_same values place y 0 (omega (arith, inv.long, place_is, less, range.l_high, range.m_high))))
       ];
     }

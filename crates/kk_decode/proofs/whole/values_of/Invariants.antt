@@ -4,7 +4,7 @@ use Rattle.kk_decode.proofs.whole.values_of.Given as goal
 
 abbrev pub invariant-loop-t : goal.invariant-loop-t
 invariant-loop-t l = record {
-  long : length l.values ≡ 31;
+  long : length l.values ≡ 64;
   over : IsOver l.code.field.degree l.values;
   x : (i : ℕ) → i < l.t → get_or l.space.rows i 0 / 2 ^ l.code.field.degree ≡ 2 ^ (l.code.l - suc i);
   y : (i : ℕ) → i < l.t → get_or l.space.rows i 0 % 2 ^ l.code.field.degree ≡ slice_index l.values (l.code.l - suc i);

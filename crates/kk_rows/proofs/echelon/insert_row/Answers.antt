@@ -7,7 +7,7 @@ use Rattle.kk_rows.proofs.Insertions.{moved_numbers, moved_is_reduced, moved_bel
 use Rattle.kk_rows.proofs.echelon.insert_row.Goals as goal
 
 pub returns-clause-reduced : goal.returns-clause-reduced
-returns-clause-reduced c =
+returns-clause-reduced g c =
     let rows = numbers (drop 1 c.args.rows.now) in
     let p = c.move_above-place.result in
     let e = c.move_above-place.ensures in
@@ -16,7 +16,7 @@ returns-clause-reduced c =
     (moved_is_reduced c.args.v.0 c.requires.some rows p c.requires.reduced c.requires.clear e.above e.below)
 
 pub returns-clause-below : goal.returns-clause-below
-returns-clause-below c n each small =
+returns-clause-below g c n each small =
     let rows = numbers (drop 1 c.args.rows.now) in
     let p = c.move_above-place.result in
     let e = c.move_above-place.ensures in
@@ -25,7 +25,7 @@ returns-clause-below c n each small =
     (moved_below c.args.v.0 c.requires.some rows p c.requires.reduced c.requires.clear e.above e.below n each small)
 
 pub returns-clause-span : goal.returns-clause-span
-returns-clause-span c x =
+returns-clause-span g c x =
     let rows = numbers (drop 1 c.args.rows.now) in
     let p = c.move_above-place.result in
     let e = c.move_above-place.ensures in
@@ -34,7 +34,7 @@ returns-clause-span c x =
     ∙ moved_spans c.args.v.0 c.requires.some rows p c.requires.reduced c.requires.clear e.above e.below x
 
 pub returns-clause-leads : goal.returns-clause-leads
-returns-clause-leads c leads old new =
+returns-clause-leads g c leads old new =
     let rows = numbers (drop 1 c.args.rows.now) in
     let p = c.move_above-place.result in
     let e = c.move_above-place.ensures in

@@ -6,9 +6,10 @@ use Rattle.kk_rows.proofs.echelon.move_above.Given as goal
 
 -- the rows before `place` have moved, and those after it stand as they stood
 abbrev pub invariant-loop-place : goal.invariant-loop-place
-invariant-loop-place l = record {
+invariant-loop-place g l = record {
   long : length l.rows ≡ length l.fn.rows;
-  front : take l.place l.rows ≡ map (λ row. record { 0 = cleared row.0 l.v.0 }) (take l.place (drop 1 l.fn.rows));
+  front : numbers (take l.place l.rows) ≡ map (λ row. cleared row l.fn.v.0) (take l.place (numbers (drop 1 l.fn.rows)));
+  lead : g.W.Word.number l.lead ≡ l.fn.v.0;
   back : drop (l.place + 1) l.rows ≡ drop (l.place + 1) l.fn.rows;
-  above : All (λ row. l.v.0 ≤ row) (take l.place (numbers (drop 1 l.fn.rows)));
+  above : All (λ row. l.fn.v.0 ≤ row) (take l.place (numbers (drop 1 l.fn.rows)));
 }

@@ -1,5 +1,6 @@
-use Rattle.std.proofs.Common.{◌-◌, ◌%◌, ◌^◌, bit_and, ap, ◌∙◌, arith}
-use Rattle.std.proofs.lemmas.Nat.{one_shl, and_mask}
+use Rattle.std.proofs.Math.Pow.{pow_mono}
+use Rattle.std.proofs.Common.{◌/◌, ◌<◌, ◌≤◌, ◌-◌, ◌%◌, ◌^◌, bit_and, ap, ◌∙◌, arith}
+use Rattle.std.proofs.lemmas.Nat.{and_mask}
 use Rattle.kk_code.proofs.Values.{x_part_below}
 use Rattle.kk_code.proofs.code.Code.parts.Goals as goal
 
@@ -7,7 +8,7 @@ pub returns-clause-y : goal.returns-clause-y
 returns-clause-y c =
     let m = c.m-m.result in
     let row = c.args.row.0 in
-    ap (λ n. bit_and row (n - 1)) (one_shl m 64 (omega (arith, c.m-m.ensures.degree, c.m-m.ensures.in_range.m_high)))
+    ap (bit_and row) (c.from.ensures ∙ c.mask.ensures)
     ∙ and_mask row m ∙ ap (λ k. row % 2 ^ k) c.m-m.ensures.degree
 
 pub returns-clause-x_below : goal.returns-clause-x_below
@@ -15,3 +16,11 @@ returns-clause-x_below c =
     let p = c.args.self.now in
     let row = c.args.row.0 in
     rw c.m-m.ensures.degree (x_part_below p.l p.field.degree row c.m-m.ensures.in_range.l_high c.requires)
+
+pub overflow_cast-result-2 : goal.overflow_cast-result-2
+overflow_cast-result-2 c =
+    let p = c.args.self.now in
+    let row = c.args.row.0 in
+    let below : row / 2 ^ c.m-m.result < 2 ^ p.field.degree = rw c.m-m.ensures.degree (x_part_below p.l p.field.degree row c.m-m.ensures.in_range.l_high c.requires) in
+    let m : 2 ^ p.field.degree ≤ 2 ^ 64 = pow_mono c.m-m.ensures.in_range.m_high in
+    omega (arith, below, m)

@@ -59,7 +59,7 @@ loop-j-preserved c =
     ap₂ (λ a b. (a - 1) * b) encoder.count m_is ∙ mul_comm (w - 1) f.degree in
     let y = products / 2 ^ ((i.per_word - 1) * c.m-m.result) in
     let y_is : y ≡ next_term p x j = ap₂ (λ a k. a / 2 ^ k) products_are last ∙ top-multiples f range.low b w x some in
-    let room : j < length terms = omega (arith, inv.long, within, range.k_high, range.l_high, range.wide) in
+    let room : j < length terms = omega (arith, inv.long, within, range.k_high, range.l_high, range.m_high) in
     record {
       long = length-set terms j y ∙ inv.long;
       word_is = ap₂ bit_xor inv.word_is products_are ∙ sym (xor_sum-next _ j);

@@ -24,7 +24,7 @@ loop-j-preserved c =
     let symbols = c.symbols-symbols.result.now in
     let s = slice_index symbols j in
     let symbol : s ≡ slice_index u j = ap (λ xs. slice_index xs j) c.symbols-symbols.ensures.symbols in
-    let few : length symbols ≤ 31 = omega (arith, ap length c.symbols-symbols.ensures.symbols, c.requires) in
+    let few : length symbols ≤ 64 = omega (arith, ap length c.symbols-symbols.ensures.symbols, c.requires) in
     let room : j < length c.loop-j.at_last = omega (arith, inv.long, c.loop-j-test.true, few) in
     record {
       long = length-set c.loop-j.at_last j s ∙ inv.long;

@@ -35,7 +35,7 @@ returns-clause-message c =
     let lines : p.l ≤ length (take c.l.result c.self.inside.rows) =
     let basis = basis_of p c.self.inside.code c.self.inside.rows (c.self.view_is ∙ c.is_of.ensures c.if-not-is_of.false) c.self.invariant in
     omega (arith, length-take-le c.l.result c.self.inside.rows (omega (arith, basis.count, c.l.ensures.points)), c.l.ensures.points) in
-    let long : length (take k image) ≡ k = length-take-le k image (omega (arith, c.transform.ensures.len, k_is, range.k_high, range.l_high, range.wide)) in
+    let long : length (take k image) ≡ k = length-take-le k image (omega (arith, c.transform.ensures.len, k_is, range.k_high, range.l_high, range.m_high)) in
     record {
       len = ap length c.from_slice.ensures ∙ long ∙ k_is;
       symbols = subst (All (λ s. s < 2 ^ p.field.degree)) (sym c.from_slice.ensures) (All-from_get_or (λ s. s < 2 ^ p.field.degree) (take k image) 0 (λ j within.
@@ -59,7 +59,7 @@ returns-clause-values c i inside =
     let basis = basis_of p c.self.inside.code rows (c.self.view_is ∙ c.is_of.ensures c.if-not-is_of.false) c.self.invariant in
     let k_is : k ≡ p.k = c.k.ensures.symbols in
     let l_is : l ≡ p.l = c.l.ensures.points in
-    let count : length w ≡ p.k = length-take-le k values (omega (arith, c.told-values, k_is, range.k_high, range.l_high, range.wide)) ∙ k_is in
+    let count : length w ≡ p.k = length-take-le k values (omega (arith, c.told-values, k_is, range.k_high, range.l_high, range.m_high)) ∙ k_is in
     let lines : length (take l rows) ≡ l = length-take-le l rows (omega (arith, basis.count, l_is)) in
     let at : (j : ℕ) → j < p.l → slice_index image j ≡ row_product f w (get_or rows j []) = λ j less.
     c.transform.ensures.values j (omega (arith, less, lines, l_is))
@@ -68,7 +68,7 @@ returns-clause-values c i inside =
     let u = c.from_slice.result in
     let each : (j : ℕ) → j < p.k → slice_index u j ≡ row_product f w (get_or rows j []) = λ j less.
     ap (λ s. slice_index s j) c.from_slice.ensures ∙ get_or-take k image j 0 (omega (arith, less, k_is)) ∙ at j (omega (arith, less, range.k_high)) in
-    let long : length u ≡ p.k = ap length c.from_slice.ensures ∙ length-take-le k image (omega (arith, c.transform.ensures.len, k_is, range.k_high, range.l_high, range.wide)) ∙ k_is in
+    let long : length u ≡ p.k = ap length c.from_slice.ensures ∙ length-take-le k image (omega (arith, c.transform.ensures.len, k_is, range.k_high, range.l_high, range.m_high)) ∙ k_is in
     let over : IsOver f.degree w = All-take (λ a. a < 2 ^ f.degree) k values c.requires.below in
     elim (cases_lt i p.k) [
       | inl first ↦ value_at_first p range.low rows basis w u count over long each i first ∙ get_or-take k values i 0 (omega (arith, first, k_is))

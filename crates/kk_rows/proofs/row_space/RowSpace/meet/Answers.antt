@@ -21,12 +21,12 @@ items_below c =
     (subst (All (λ r. r < 2 ^ c.args.a.now.width)) (sym c.rows-row-items.ensures.rows) c.rows-row-items.ensures.below)
 
 -- and there is room for each
-items_few : (c : After-rows-row-items) → length c.rows-row-items.result.now ≤ 63
+items_few : (c : After-rows-row-items) → length c.rows-row-items.result.now ≤ 128
 items_few c =
     let few = length_reduced-le c.args.a.now.width c.args.a.now.rows c.rows-row-items.ensures.reduced c.rows-row-items.ensures.below in
     let same = length-map c.rows-row-items.result.now (λ (row : Row). row.0) in
     let listed = ap length c.rows-row-items.ensures.rows in
-    let fits = subst (λ (s : Space). s.width ≤ 63) c.b.view_is c.b.invariant.width_fits in
+    let fits = subst (λ (s : Space). s.width ≤ 128) c.b.view_is c.b.invariant.width_fits in
     omega (arith, c.requires)
 
 pub loop-row-init : goal.loop-row-init

@@ -8,8 +8,8 @@ use Rattle.kk_rows.proofs.row_space.RowSpace.rows.Goals as goal
 
 pub returns-clause-rows : goal.returns-clause-rows
 returns-clause-rows c =
-    let len : length c.self.inside.rows ≡ 63 = omega arith in
-    ap (λ l. numbers l) (mid_to_end c.self.inside.rows 63 (63 - c.self.inside.rank) len) ∙ ap (λ (s : Space). s.rows) c.self.view_is
+    let len : length c.self.inside.rows ≡ 128 = omega arith in
+    ap (λ l. numbers l) (mid_to_end c.self.inside.rows 128 (128 - c.self.inside.rank) len) ∙ ap (λ (s : Space). s.rows) c.self.view_is
 
 pub returns-clause-reduced : goal.returns-clause-reduced
 returns-clause-reduced c = subst (λ (s : Space). IsReduced s.rows) c.self.view_is c.self.invariant.reduced

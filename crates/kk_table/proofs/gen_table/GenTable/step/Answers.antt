@@ -41,3 +41,6 @@ returns-clause-room c = (done c).1
 
 pub returns-clause-step : goal.returns-clause-step
 returns-clause-step c = (done c).0.steps
+
+pub probe-found-requires-clause-narrow : goal.probe-found-requires-clause-narrow
+probe-found-requires-clause-narrow c = c.self.invariant.0.fits
