@@ -12,7 +12,7 @@ use Rattle.kk_rows.specs.Distance.{meet_dimension}
 use Rattle.kk_rows.specs.Span.{in_span, dimension}
 use Rattle.kk_rows.proofs.AdditiveMaps.{in_span-unit_rows, unit_rows-below, unit_rows-independent, unit_rows-more}
 use Rattle.kk_rows.proofs.Combinations.{in_span-combination}
-use Rattle.kk_rows.proofs.Dimensions.{innovative_behind-nil}
+use Rattle.kk_rows.proofs.Dimensions.{innovative_after-nil}
 use Rattle.kk_rows.proofs.Meets.{meet_dimension_of_common, sum_and_meet_dimension}
 use Rattle.kk_rows.proofs.Spans.{same_bool, in_span-nil, in_span-zero, in_span-xor, in_span-lt, in_span-append_left, in_span-append_right, in_span-push_same, in_span-push_shifted}
 use Rattle.kk_rows.proofs.Sums.{xor_twice, xor_swap}
@@ -70,7 +70,7 @@ module _ (p : Parameters) (h : p.field.low < 2 ^ p.field.degree) (u : List ℕ) 
       let common = meet_dimension_of_common (codeword p u) (unit_rows n) [] (λ x. same_bool _ _
       (λ k. let zero_is = in_span-nil x k in and_from _ _ (subst (λ y. in_span (codeword p u) y ≡ true) (sym zero_is) (in_span-zero (codeword p u))) (subst (λ y. in_span (unit_rows n) y ≡ true) (sym zero_is) (in_span-zero (unit_rows n))))
       (λ k. let both = and_parts _ _ k in subst (λ y. in_span [] y ≡ true) (sym (only_zero x both.0 both.1)) (in_span-zero []))) in
-      sym common ∙ ap length (innovative_behind-nil [])
+      sym common ∙ ap length (innovative_after-nil [])
 
   -- so unit rows with x-part 0 add their number to its dimension
   pub dimension-with_unit_rows : dimension (codeword p u ++ unit_rows n) ≡ p.l + n

@@ -3,7 +3,7 @@ use Rattle.std.specs.Prelude.{◌≡◌, refl, ℕ, Some, [], ◌∷◌, slice_i
 use Rattle.kk_field.specs.Polynomial.{product, product_below, remainder, remainder_below}
 use Rattle.kk_field.specs.Field.{field_product, frobenius}
 use Rattle.kk_linpoly.specs.LinPoly.{value_from}
-use Rattle.kk_rows.specs.Span.{in_span, innovative_behind}
+use Rattle.kk_rows.specs.Span.{in_span, innovative_after}
 use Rattle.kk_rows.specs.Combination.{combination}
 use Rattle.kk_code.specs.Codeword.{codeword}
 use Rattle.kk_code.specs.CodeExamples.{small}
@@ -20,16 +20,16 @@ unfolding combination value_from frobenius field_product product product_below r
 one_of_each = refl
 
 pub one_erased : erased small (28 ∷ 62 ∷ 12 ∷ []) (5 ∷ []) ≡ 1
-unfolding innovative_behind in_span value_from frobenius field_product product product_below remainder remainder_below
+unfolding innovative_after in_span value_from frobenius field_product product product_below remainder remainder_below
 one_erased = refl
 
 pub one_injected : injected small (28 ∷ 62 ∷ 12 ∷ []) (5 ∷ []) ≡ 1
-unfolding innovative_behind in_span value_from frobenius field_product product product_below remainder remainder_below
+unfolding innovative_after in_span value_from frobenius field_product product product_below remainder remainder_below
 one_injected = refl
 
 -- on the radius
 pub five_is_the_answer : answer small (28 ∷ 62 ∷ 12 ∷ []) ≡ Some (5 ∷ [])
-unfolding answer within_radius message_at innovative_behind in_span value_from frobenius field_product product product_below remainder remainder_below
+unfolding answer within_radius message_at innovative_after in_span value_from frobenius field_product product product_below remainder remainder_below
 five_is_the_answer = refl
 
 -- nothing erased and nothing injected
@@ -46,9 +46,9 @@ unfolding combination value_from frobenius field_product product product_below r
 two_of_each = refl
 
 pub two_erased : erased small (62 ∷ 12 ∷ 18 ∷ []) (5 ∷ []) ≡ 2
-unfolding innovative_behind in_span value_from frobenius field_product product product_below remainder remainder_below
+unfolding innovative_after in_span value_from frobenius field_product product product_below remainder remainder_below
 two_erased = refl
 
 pub two_injected : injected small (62 ∷ 12 ∷ 18 ∷ []) (5 ∷ []) ≡ 2
-unfolding innovative_behind in_span value_from frobenius field_product product product_below remainder remainder_below
+unfolding innovative_after in_span value_from frobenius field_product product product_below remainder remainder_below
 two_injected = refl

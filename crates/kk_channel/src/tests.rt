@@ -71,7 +71,7 @@ impl Rng for Digits {
 fn message(code: &Code, symbol: u64) -> Option<Message>
     ensures { IfSome result (IsMessage code.now) }
 {
-    if code.k() != 1 || symbol >> code.m() != 0 {
+    if code.k() != 1 || u128::from(symbol) >> code.m() != 0 {
         return None;
     }
     Some(Message::from_slice(&[symbol]))

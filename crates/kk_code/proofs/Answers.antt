@@ -1,43 +1,16 @@
--- The answer to a text: how each refusal comes, and that no text has two answers.
-use Rattle.std.proofs.Common.{◌≡◌, ℕ, ◌<◌, true, false, List, Option, Some, None, Result, Ok, Err, is_some, refl, sym, ap, subst, ◌∙◌, arith}
+-- The answer to a text: no text has two.
+use Rattle.std.proofs.Common.{◌≡◌, ℕ, List, Option, Some, None, Result, Ok, Err, is_some, refl, sym, ap, subst, ◌∙◌, arith}
 use Rattle.std.specs.Prelude.{IfOk, IsErr, ◌↔◌}
-use Rattle.std.proofs.lemmas.Bool.{false≢true, true≢false}
-use Rattle.kk_field.specs.Field.{polynomial}
-use Rattle.kk_field.specs.Polynomial.{IsIrreducible}
+use Rattle.std.proofs.lemmas.Bool.{false≢true}
 use Rattle.kk_code.specs.Ticket.{TicketFields, generations}
 use Rattle.kk_code.specs.TicketText.{shape_fault, range_fault, spelled, IsFirstFault, IsTicketText}
 use Rattle.kk_code.specs.Reading.{IsRefused, IsAnswer}
 use Rattle.kk_code.specs.declared.fault.TicketFault.{TicketFault}
 use Rattle.kk_code.specs.declared.fault.TicketFault.TheVariants.{Shape, Range, NotIrreducible, TooMany}
-use Rattle.kk_code.specs.declared.ticket.TheConstants.{MAX_GENERATIONS}
 use Rattle.kk_code.specs.Laws.{TextHasOneFault}
 
 pub some_is_none : {A : Type 0} (o : Option A) (x : A) → o ≡ Some x → o ≡ None → ⊥
 some_is_none o x some none = false≢true (ap is_some (sym none ∙ some))
-
-some_value : {A : Type 0} (o : Option A) → is_some o ≡ true → (x : A) × (o ≡ Some x)
-some_value None h = absurd (false≢true h)
-some_value (Some x) h = (x, refl)
-
-pub none_value : {A : Type 0} (o : Option A) → is_some o ≡ false → o ≡ None
-none_value None h = refl
-none_value (Some x) h = absurd (true≢false h)
-
--- ---- how each fault comes
-
-pub fault_shape : (text : List ℕ) (at : ℕ) → shape_fault text ≡ Some at → IsFirstFault text (Shape at)
-fault_shape text at fault = fault
-
-pub fault_range : (text : List ℕ) (t : TicketFields) (at : ℕ) → shape_fault text ≡ None → spelled text ≡ t → range_fault t.code ≡ Some at → IsFirstFault text (Range at)
-fault_range text t at shape spells fault = (shape, ap (λ u. range_fault u.code) spells ∙ fault)
-
-pub fault_product : (text : List ℕ) (t : TicketFields) → shape_fault text ≡ None → spelled text ≡ t → range_fault t.code ≡ None → (IsIrreducible (polynomial t.code.field) → ⊥) → IsFirstFault text NotIrreducible
-fault_product text t shape spells range product =
-    (shape, ap (λ u. range_fault u.code) spells ∙ range, λ irreducible. product (rw spells at irreducible))
-
-pub fault_many : (text : List ℕ) (t : TicketFields) (n : ℕ) → shape_fault text ≡ None → spelled text ≡ t → range_fault t.code ≡ None → IsIrreducible (polynomial t.code.field) → generations t ≡ n → MAX_GENERATIONS < n → IsFirstFault text (TooMany n)
-fault_many text t n shape spells range irreducible is many =
-    (shape, ap (λ u. range_fault u.code) spells ∙ range, rw spells irreducible, ap generations spells ∙ is, many)
 
 -- ---- no text has two answers
 

@@ -69,4 +69,4 @@ decoding_is_unique p code rows u v du dv =
     let a = codeword p u in
     let b = codeword p v in
     same_message p code u v du.message dv.message
-    (omega (arith, distance_by_meet a b, distance_triangle a rows b, distance_comm rows b, du.near, dv.near, dimension-codeword p h u, dimension-codeword p h v, code.k_high))
+    (omega (arith, distance_by_meet a b, distance_triangle a rows b, distance_comm rows b, du.within, dv.within, dimension-codeword p h u, dimension-codeword p h v, code.k_high))

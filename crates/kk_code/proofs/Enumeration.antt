@@ -107,11 +107,11 @@ is_message p n = record { len = length-message_at p.field.degree p.k n; symbols 
 
 decodes : (p : Parameters) (rows : List ℕ) (n : ℕ) → within_radius p rows (message_at p.field.degree p.k n) ≡ true → Decodes p rows (message_at p.field.degree p.k n)
 unfolding within_radius
-decodes p rows n passes = record { message = is_message p n; near = leb-true _ _ passes }
+decodes p rows n passes = record { message = is_message p n; within = leb-true _ _ passes }
 
 passes_where : (p : Parameters) (rows u : List ℕ) → Decodes p rows u → within_radius p rows u ≡ true
 unfolding within_radius
-passes_where p rows u d = le-leb _ _ d.near
+passes_where p rows u d = le-leb _ _ d.within
 
 each_message : (P : List ℕ → Type 0) (p : Parameters) → ((n : ℕ) → P (message_at p.field.degree p.k n)) → All P (messages p)
 each_message P p each =

@@ -1,17 +1,19 @@
--- A text is a ticket or has a first fault.
-use Rattle.std.proofs.Common.{◌≡◌, ◌⊎◌, ℕ, ◌+◌, ◌^◌, ◌≤◌, Bool, true, false, not, ◌&&◌, cond, leb, ltb, List, Option, Some, None, inl, inr, refl, arith}
-use Rattle.std.proofs.lemmas.Bool.{cases_lt, cases_Bool, and_parts, leb-true, ltb-true}
+-- A text is a ticket or has a first fault, and `ticket_of` tells which.
+use Rattle.std.proofs.Common.{◌≡◌, ◌⊎◌, ℕ, ◌+◌, ◌^◌, Bool, true, false, not, ◌&&◌, cond, leb, ltb, List, Option, Some, None, Result, Ok, Err, inl, inr, refl, sym, subst, ◌∙◌, arith}
+use Rattle.std.proofs.lemmas.Bool.{cases_lt, cases_Bool, and_parts, leb-true, ltb-true, lt-ltb, le-ltb}
+use Rattle.std.proofs.lemmas.Bool.Decides.{not_from_Decides}
 use Rattle.kk_field.specs.Field.{polynomial}
-use Rattle.kk_field.proofs.Remainders.{HasDegree-modulus}
+use Rattle.kk_field.specs.Polynomial.{irreducible}
+use Rattle.kk_field.proofs.Irreducible.{irreducible-Decides}
 use Rattle.kk_code.specs.Codeword.{Parameters, IsInRange, IsNarrow}
 use Rattle.kk_code.specs.Ticket.{TicketFields, generations}
-use Rattle.kk_code.specs.TicketText.{shape_fault, range_fault, spelled, IsFirstFault, IsTicketText}
+use Rattle.kk_code.specs.TicketText.{shape_fault, range_fault, spelled, ticket_of, IsFirstFault, IsTicketText}
+use Rattle.kk_code.specs.Reading.{IsAnswer}
 use Rattle.kk_code.specs.declared.ticket.TheConstants.{MAX_GENERATIONS}
 use Rattle.kk_code.specs.declared.fault.TicketFault.{TicketFault}
 use Rattle.kk_code.specs.declared.fault.TicketFault.TheVariants.{Shape, Range, NotIrreducible, TooMany}
-use Rattle.kk_code.specs.Laws.{TextIsOfATicket, TextIsATicketOrFaulty}
-use Rattle.kk_code.proofs.Irreducible.{is_product, IsIrreducible-from_search, product-from_search}
-use Rattle.kk_code.proofs.Answers.{some_is_none}
+use Rattle.kk_code.specs.Laws.{TextIsOfATicket, TextIsATicketOrFaulty, TicketOfIsExact}
+use Rattle.kk_code.proofs.Answers.{some_is_none, answer_every, answer_fault}
 use Rattle.kk_code.proofs.Texts.{session_below}
 
 passed : (b : Bool) (n : ℕ) (later : Option ℕ) → cond (not b) (Some n) later ≡ None → (b ≡ true) × (later ≡ None)
@@ -51,34 +53,71 @@ IsNarrow-from_no_fault p h =
     let points = and_parts (leb 1 p.l && leb p.l m) (leb (p.l + m) 63) third.0 in
     record { m_high = leb-true m 62 degree.1; wide = leb-true (p.l + m) 63 points.1 }
 
-pub ticket_of : TextIsOfATicket
-ticket_of text t h = record { session = session_below text t h; code = IsInRange-from_no_fault t.code h.range; narrow = IsNarrow-from_no_fault t.code h.range; irreducible = h.irreducible; few = h.few }
+pub text_is_of_a_ticket : TextIsOfATicket
+text_is_of_a_ticket text t h = record { session = session_below text t h; code = IsInRange-from_no_fault t.code h.range; narrow = IsNarrow-from_no_fault t.code h.range; irreducible = h.irreducible; few = h.few }
 
 value_of : {A : Type 0} (o : Option A) → ((x : A) × (o ≡ Some x)) ⊎ (o ≡ None)
 value_of None = inr refl
 value_of (Some x) = inl (x, refl)
 
-outcome_in_range : (text : List ℕ) → shape_fault text ≡ None → range_fault (spelled text).code ≡ None → ((t : TicketFields) × IsTicketText text t) ⊎ ((fault : TicketFault) × IsFirstFault text fault)
-outcome_in_range text shape range =
-    let p = (spelled text).code in
-    let h = IsInRange-from_no_fault p range in
-    let one : 1 ≤ p.field.degree = omega (arith, h.m_low) in
-    elim (cases_Bool (is_product (polynomial p.field) (2 ^ p.field.degree))) [
-      | inl product ↦ inr (NotIrreducible, (shape, range, product-from_search (polynomial p.field) (2 ^ p.field.degree) product))
-      | inr none ↦
-          let irreducible = IsIrreducible-from_search (polynomial p.field) p.field.degree one (HasDegree-modulus p.field.degree p.field.low h.low) none in
-          elim (cases_lt MAX_GENERATIONS (generations (spelled text))) [
-            | inl many ↦ inr (TooMany (generations (spelled text)), (shape, range, irreducible, refl, many))
-            | inr few ↦ inl (spelled text, record { shape = shape; spells = refl; range = range; irreducible = irreducible; few = few })
+-- ---- what `ticket_of` gives
+
+ticket_of-shape : (text : List ℕ) (at : ℕ) → shape_fault text ≡ Some at → ticket_of text ≡ Err (Shape at)
+unfolding ticket_of
+ticket_of-shape text at shape = rw (shape, ticket_of) refl
+
+ticket_of-range : (text : List ℕ) (part : ℕ) → shape_fault text ≡ None → range_fault (spelled text).code ≡ Some part → ticket_of text ≡ Err (Range part)
+unfolding ticket_of
+ticket_of-range text part shape range = rw (shape, range, ticket_of) refl
+
+ticket_of-in_range : (text : List ℕ) → shape_fault text ≡ None → range_fault (spelled text).code ≡ None → ticket_of text ≡ cond (not (irreducible (polynomial (spelled text).code.field))) (Err NotIrreducible) (cond (ltb MAX_GENERATIONS (generations (spelled text))) (Err (TooMany (generations (spelled text)))) (Ok (spelled text)))
+unfolding ticket_of
+ticket_of-in_range text shape range = rw (shape, range, ticket_of) refl
+
+answer_in_range : (text : List ℕ) → shape_fault text ≡ None → range_fault (spelled text).code ≡ None → IsAnswer text (ticket_of text)
+answer_in_range text shape range =
+    let t = spelled text in
+    let p = polynomial t.code.field in
+    let answer = ticket_of-in_range text shape range in
+    elim (cases_Bool (irreducible p)) [
+      | inr product ↦
+          let is : ticket_of text ≡ Err NotIrreducible = answer ∙ rw product refl in
+          subst (IsAnswer text) (sym is) (shape, range, not_from_Decides (irreducible p) (irreducible-Decides p) product)
+      | inl prime ↦
+          let irreducible = (irreducible-Decides p).0 prime in
+          elim (cases_lt MAX_GENERATIONS (generations t)) [
+            | inl many ↦
+                let is : ticket_of text ≡ Err (TooMany (generations t)) = answer ∙ rw (prime, lt-ltb MAX_GENERATIONS (generations t) many) refl in
+                subst (IsAnswer text) (sym is) (shape, range, irreducible, refl, many)
+            | inr few ↦
+                let is : ticket_of text ≡ Ok t = answer ∙ rw (prime, le-ltb MAX_GENERATIONS (generations t) few) refl in
+                subst (IsAnswer text) (sym is) (record { shape = shape; spells = refl; range = range; irreducible = irreducible; few = few })
           ]
     ]
 
-pub outcome_of : TextIsATicketOrFaulty
-outcome_of text =
+pub answer_of : (text : List ℕ) → IsAnswer text (ticket_of text)
+answer_of text =
     elim (value_of (shape_fault text)) [
-      | inl at ↦ inr (Shape at.0, at.1)
+      | inl at ↦ subst (IsAnswer text) (sym (ticket_of-shape text at.0 at.1)) (at.1)
       | inr shape ↦ elim (value_of (range_fault (spelled text).code)) [
-        | inl field ↦ inr (Range field.0, (shape, field.1))
-        | inr range ↦ outcome_in_range text shape range
+        | inl part ↦ subst (IsAnswer text) (sym (ticket_of-range text part.0 shape part.1)) (shape, part.1)
+        | inr range ↦ answer_in_range text shape range
       ]
     ]
+
+outcome : (text : List ℕ) (r : Result TicketFields TicketFault) → IsAnswer text r → ((t : TicketFields) × IsTicketText text t) ⊎ ((fault : TicketFault) × IsFirstFault text fault)
+outcome text (Ok t) h = inl (t, h)
+outcome text (Err fault) h = inr (fault, h)
+
+pub outcome_of : TextIsATicketOrFaulty
+outcome_of text = outcome text (ticket_of text) (answer_of text)
+
+pub ticket_of_is_exact : TicketOfIsExact
+ticket_of_is_exact = record {
+  ok = λ text t. (λ is. subst (IsAnswer text) is (answer_of text), λ h. answer_every text (ticket_of text) t (answer_of text) h);
+  err = λ text fault. answer_fault text (ticket_of text) fault (answer_of text);
+}
+
+pub answer_is : (text : List ℕ) (r : Result TicketFields TicketFault) → IsAnswer text r → r ≡ ticket_of text
+answer_is text (Ok t) h = sym (answer_every text (ticket_of text) t (answer_of text) h)
+answer_is text (Err fault) h = sym ((answer_fault text (ticket_of text) fault (answer_of text)).1 h)

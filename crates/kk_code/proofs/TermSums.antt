@@ -1,5 +1,5 @@
 -- The terms of a message at the evaluation points, and their sums.
-use Rattle.std.proofs.Common.{◌≡◌, ℕ, zero, suc, ◌+◌, ◌*◌, ◌/◌, ◌%◌, ◌^◌, ◌<◌, ◌≤◌, List, [], ◌∷◌, length, bit_xor, slice_index, refl, sym, ap, ◌∙◌, inl, inr, add-one, arith}
+use Rattle.std.proofs.Common.{◌≡◌, ℕ, zero, suc, ◌+◌, ◌*◌, ◌/◌, ◌%◌, ◌^◌, ◌<◌, ◌≤◌, List, [], ◌∷◌, length, bit_xor, slice_index, sym, ap, ◌∙◌, inl, inr, add-one, arith}
 use Rattle.std.proofs.Math.Nat.{zero-mul, one-mul, mul-zero, mul-div-le, lt-div-mul-add, div-one, div-div-eq-div-mul}
 use Rattle.std.proofs.Math.Pow.{pow-lt}
 use Rattle.std.proofs.lemmas.Bool.{cases_eq}
@@ -68,13 +68,6 @@ module _ (f : Modulus) (h : f.low < 2 ^ f.degree) where
       ∙ xor_sum-same _ _ (length cs) (λ j less. ap (field_product f (slice_index cs j)) (sym (frobenius-suc f h j x))))
       ∙ ap (λ y. bit_xor (field_product f c y) (xor_sum (λ j. field_product f (slice_index cs j) (frobenius f (suc j) x)) (length cs))) (sym (frobenius_start f x))
       ∙ sym (xor_sum-first (λ j. field_product f (slice_index (c ∷ cs) j) (frobenius f j x)) (length cs))
-
-xor_sum_suc : (terms : ℕ → ℕ) (n : ℕ) → xor_sum terms (suc n) ≡ bit_xor (xor_sum terms n) (terms n)
-unfolding xor_sum
-xor_sum_suc terms n = refl
-
-pub xor_sum-next : (terms : ℕ → ℕ) (n : ℕ) → xor_sum terms (n + 1) ≡ bit_xor (xor_sum terms n) (terms n)
-xor_sum-next terms n = ap (xor_sum terms) (add-one n) ∙ xor_sum_suc terms n
 
 -- ---- terms
 

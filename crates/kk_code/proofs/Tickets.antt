@@ -2,9 +2,9 @@
 use Rattle.std.proofs.Common.{◌+◌, ◌-◌, ◌*◌, ◌/◌, ◌^◌, ◌<◌, ◌≤◌, lit<, lit≤, arith}
 use Rattle.std.proofs.Math.Nat.{lt-mul-div-succ}
 use Rattle.std.proofs.lemmas.Nat.{mul-le, mul-lt}
+use Rattle.kk_field.proofs.Irreducible.{eleven}
 use Rattle.kk_code.specs.Ticket.{TicketFields, one_byte}
 use Rattle.kk_code.specs.TicketText.{IsTicket}
-use Rattle.kk_code.proofs.Irreducible.{eleven}
 
 pub one_byte_ticket : IsTicket one_byte
 one_byte_ticket = record {

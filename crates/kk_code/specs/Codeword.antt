@@ -1,4 +1,4 @@
--- The subspace code of Kötter and Kschischang (IEEE Trans. Inf. Theory 54(8), 2008, section IV).
+-- The subspace code of Kötter and Kschischang (2008, section IV; crates/kk_code/README.md has the reference).
 use Rattle.std.specs.Prelude.{◌≡◌, ℕ, ◌+◌, ◌*◌, ◌^◌, ◌<◌, ◌≤◌, List, length, map, All}
 use Rattle.std.specs.List.{range_with_len}
 use Rattle.kk_field.specs.Field.{Modulus}
@@ -15,7 +15,7 @@ pub record Parameters : Type 0 where
 abbrev pub width : Parameters → ℕ
 width p = p.l + p.field.degree
 
--- the ranges that this version of the code allows
+-- the ranges of a code: m is 2 to 64, l is 1 to m, and k is 1 to l
 pub record IsInRange (p : Parameters) : Type 0 where
   pub m_low : 2 ≤ p.field.degree
   pub m_high : p.field.degree ≤ 64

@@ -20,7 +20,7 @@ within_radius p rows u = nat_le (distance (codeword p u) rows) (p.l - p.k)
 -- u is a message whose codeword lies within distance l - k of the space
 pub record Decodes (p : Parameters) (rows u : List ℕ) : Type 0 where
   pub message : IsMessage p u
-  pub near : distance (codeword p u) rows ≤ p.l - p.k
+  pub within : distance (codeword p u) rows ≤ p.l - p.k
 
 -- message number n of those with k symbols of m bits: its symbols are the digits of n, the first the most significant
 unfoldable pub message_at : ℕ → ℕ → ℕ → List ℕ

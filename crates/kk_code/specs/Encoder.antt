@@ -5,7 +5,7 @@ use Rattle.kk_field.specs.Field.{Modulus, field_product, frobenius, power}
 use Rattle.kk_tables.specs.Tables.{IsTableOf}
 use Rattle.kk_linpoly.specs.LinPoly.{xor_sum}
 use Rattle.kk_code.specs.Codeword.{Parameters}
-use Rattle.kk_code.specs.declared.encoder.TheConstants.{MAX_SYMBOLS}
+use Rattle.kk_code.specs.declared.code.TheConstants.{MAX_POINTS}
 use Rattle.kk_code.specs.declared.terms.Terms.{Terms}
 
 -- the products of x and b^1, .. b^n, each in m bits, the next above the last
@@ -35,7 +35,7 @@ pub record IsEncoder (p : Parameters) (n : ℕ) (tables : List (List ℕ)) : Typ
 
 -- one element of the field for each symbol
 pub record AreElements (p : Parameters) (terms : List ℕ) : Type 0 where
-  pub long : length terms ≡ MAX_SYMBOLS
+  pub long : length terms ≡ MAX_POINTS
   pub below : (j : ℕ) → j < p.k → slice_index terms j < 2 ^ p.field.degree
 
 -- the sums of the terms' products, in a word

@@ -1,38 +1,43 @@
 -- The laws of codewords, and those of tickets and their texts, which the functions of `laws` prove.
-use Rattle.std.specs.Prelude.{◌≡◌, ◌≢◌, ◌⊎◌, ◌↔◌, ◌+◌, ◌-◌, ◌*◌, ◌^◌, ◌<◌, ◌≤◌, ℕ, List, IsTrue, Some, None}
+use Rattle.std.specs.Prelude.{◌≡◌, ◌≢◌, ◌⊎◌, ◌↔◌, ◌+◌, ◌-◌, ◌*◌, ◌^◌, ◌<◌, ◌≤◌, ℕ, List, IsTrue, Some, None, Ok, Err}
 use Rattle.kk_linpoly.specs.LinPoly.{value}
 use Rattle.kk_rows.specs.Span.{in_span}
 use Rattle.kk_rows.specs.Distance.{distance}
 use Rattle.kk_code.specs.Codeword.{Parameters, IsCode, IsMessage, row_of, codeword}
 use Rattle.kk_code.specs.Decoding.{Decodes, answer}
 use Rattle.kk_code.specs.Ticket.{TicketFields, ticket_text}
-use Rattle.kk_code.specs.TicketText.{IsTicket, IsTicketText, IsFirstFault}
+use Rattle.kk_code.specs.TicketText.{IsTicket, IsTicketText, IsFirstFault, ticket_of}
 use Rattle.kk_code.specs.declared.fault.TicketFault.{TicketFault}
 
 -- what a text spells is a ticket
 abbrev pub TextIsOfATicket : Type 0
 TextIsOfATicket = (text : List ℕ) (t : TicketFields) → IsTicketText text t → IsTicket t
 
--- each ticket has a text
+-- the text of a ticket spells that ticket
 abbrev pub TicketHasItsText : Type 0
 TicketHasItsText = (t : TicketFields) → IsTicket t → IsTicketText (ticket_text t) t
 
--- and no other
+-- a ticket has no other text than `ticket_text`
 abbrev pub TicketHasOneText : Type 0
 TicketHasOneText = (text : List ℕ) (t : TicketFields) → IsTicketText text t → text ≡ ticket_text t
 
--- a text that is no ticket has a fault
+-- a text is a ticket, or it has a first fault
 abbrev pub TextIsATicketOrFaulty : Type 0
 TextIsATicketOrFaulty =
     (text : List ℕ) → ((t : TicketFields) × IsTicketText text t) ⊎ ((fault : TicketFault) × IsFirstFault text fault)
 
--- a ticket has none
+-- a text that is a ticket has no fault
 abbrev pub TicketHasNoFault : Type 0
 TicketHasNoFault = (text : List ℕ) (t : TicketFields) (fault : TicketFault) → IsTicketText text t → IsFirstFault text fault → ⊥
 
--- and no text has two
+-- a text has at most one first fault
 abbrev pub TextHasOneFault : Type 0
 TextHasOneFault = (text : List ℕ) (fault other : TicketFault) → IsFirstFault text fault → IsFirstFault text other → fault ≡ other
+
+-- `ticket_of` gives a ticket exactly where the text is that ticket, and a fault exactly where it is the first of the text
+pub record TicketOfIsExact : Type 0 where
+  pub ok : (text : List ℕ) (t : TicketFields) → (ticket_of text ≡ Ok t) ↔ IsTicketText text t
+  pub err : (text : List ℕ) (fault : TicketFault) → (ticket_of text ≡ Err fault) ↔ IsFirstFault text fault
 
 -- ---- codewords
 

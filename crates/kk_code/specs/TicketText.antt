@@ -1,12 +1,12 @@
 -- The grammar of a ticket's text, `kk1:SESSION:M:MOD:L:K:LENGTH`, and what is wrong with a text that is none.
-use Rattle.std.specs.Prelude.{◌≡◌, ℕ, ◌+◌, ◌^◌, ◌<◌, ◌≤◌, Bool, false, not, ◌&&◌, ◌||◌, if◌then◌else◌, ◌==◌, nat_lt, nat_le, List, [], ◌∷◌, length, slice_get, slice_index, slice_index_or, Option, Some, None, codes, bytes_eq}
+use Rattle.std.specs.Prelude.{◌≡◌, ℕ, ◌+◌, ◌^◌, ◌<◌, ◌≤◌, Bool, false, not, ◌&&◌, ◌||◌, if◌then◌else◌, ◌==◌, nat_lt, nat_le, List, [], ◌∷◌, length, slice_get, slice_index, slice_index_or, Option, Some, None, Result, Ok, Err, codes, bytes_eq}
 use Rattle.std.specs.List.{list_all, slice_split}
 use Rattle.std.specs.Option.{option_map_or}
 use Rattle.std.specs.Char.{is_ascii_digit}
 use Rattle.std.specs.Int.{is_in_range}
 use Rattle.std.specs.Str.Parse.{digits_value}
 use Rattle.kk_field.specs.Field.{polynomial}
-use Rattle.kk_field.specs.Polynomial.{IsIrreducible}
+use Rattle.kk_field.specs.Polynomial.{IsIrreducible, irreducible}
 use Rattle.kk_code.specs.Codeword.{Parameters, IsInRange, IsNarrow, width}
 use Rattle.kk_code.specs.declared.ticket.TheConstants.{MAX_GENERATIONS}
 use Rattle.kk_code.specs.declared.fault.TicketFault.{TicketFault}
@@ -86,6 +86,21 @@ range_fault p =
     else (if not (nat_le 1 p.l && nat_le p.l p.field.degree && nat_le (width p) 63) then Some 4
     else (if not (nat_le 1 p.k && nat_le p.k p.l) then Some 5
     else None)))
+
+-- The ticket that a text is, or its first fault. A fault of its shape comes first, then a number out of its range, a
+-- modulus that is a product, and a file of too many messages.
+unfoldable pub ticket_of : List ℕ → Result TicketFields TicketFault
+ticket_of text =
+    let t = spelled text in
+    elim (shape_fault text) [
+      | Some at ↦ Err (Shape at)
+      | None ↦ elim (range_fault t.code) [
+        | Some part ↦ Err (Range part)
+        | None ↦
+            if not (irreducible (polynomial t.code.field)) then Err NotIrreducible
+            else (if nat_lt MAX_GENERATIONS (generations t) then Err (TooMany (generations t)) else Ok t)
+      ]
+    ]
 
 -- the session, code and length that a ticket can have
 pub record IsTicket (t : TicketFields) : Type 0 where

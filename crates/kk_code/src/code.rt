@@ -2,17 +2,21 @@
 ghost use Rattle.std.specs.Prelude.{◌≡◌, ◌-◌, ◌/◌, ◌%◌, ◌^◌, ◌<◌, ◌≤◌, IfOk, IfErr};
 ghost use Rattle.kk_code.specs.Codeword.{Parameters, IsInRange, IsCode, row_of, width};
 ghost use Rattle.kk_code.specs.Limits.{IsFirstBroken};
+ghost use Rattle.kk_code.specs.Ticket.{message_bits};
 
 use crate::BadParams;
 use kk_field::Field;
 use kk_rows::Row;
 use std::marker::Model;
 
+/// The most evaluation points of a code, and so the most rows of a codeword and the most symbols of a message.
+pub const MAX_POINTS: usize = 64;
+
 /// The code of Kötter and Kschischang (IEEE Trans. Inf. Theory 54(8), 2008, section IV) over GF(2^m), with `l`
 /// evaluation points and messages of `k` symbols.
 ///
 /// `m` is 2 to 64, `l` is 1 to `m`, and `k` is 1 to `l`.
-#[derive(Clone, Copy)]
+#[derive(Clone, Copy, Debug, PartialEq, Eq)]
 pub struct Code {
     field: Field,
     l: u32,
@@ -99,6 +103,14 @@ impl Code {
         ensures code { IsCode self.now }
     {
         self.k
+    }
+
+    /// How many bits a message has: `k` symbols of `m`.
+    pub fn message_bits(&self) -> u32
+        ensures bits { result ≡ message_bits self.now }
+        ensures in_range { IsInRange self.now }
+    {
+        self.k * self.m()
     }
 
     /// How many bits a row has, `l + m`.

@@ -6,7 +6,7 @@ ghost use Rattle.kk_tables.specs.declared.bytes.TheConstants.{ENTRIES};
 
 use crate::multiples::make_table;
 use crate::terms::Terms;
-use crate::{Code, CodeRows, Message};
+use crate::{Code, CodeRows, MAX_POINTS, Message};
 use kk_field::Steps;
 use kk_rows::Alloc;
 use kk_tables::FieldTables;
@@ -14,9 +14,6 @@ use kk_tables::bytes::{ENTRIES, image_of};
 use std::alloc::Global;
 use std::marker::{Brand, Model};
 use std::sync::ledger::{Blank, Ledger};
-
-/// The most symbols of a message: there are at most as many as evaluation points, and these are at most 64.
-pub(crate) const MAX_SYMBOLS: usize = 64;
 
 /// The encoder of a code, by tables that are made once: for who encodes many messages. It takes 16 KB for each symbol.
 ///
@@ -110,7 +107,7 @@ impl Encoder {
     }
 
     /// The next values of the terms, one word of the sums of all, and the terms themselves as they stand after these.
-    pub(crate) fn advance(&self, terms: &mut [u64; MAX_SYMBOLS]) -> u64
+    pub(crate) fn advance(&self, terms: &mut [u64; MAX_POINTS]) -> u64
         requires below { AreElements self.now terms.old }
         ensures below { AreElements self.now terms.new }
         ensures word { result ≡ word_of self.now terms.old }
@@ -128,7 +125,7 @@ impl Encoder {
 
     /// The same for elements of at most `bytes` bytes.
     #[inline(always)]
-    fn advance_by(&self, terms: &mut [u64; MAX_SYMBOLS], bytes: usize) -> u64
+    fn advance_by(&self, terms: &mut [u64; MAX_POINTS], bytes: usize) -> u64
         requires below { AreElements self.now terms.old }
         requires enough { self.now.field.degree ≤ 8 * bytes }
         requires few { bytes ≤ 8 }

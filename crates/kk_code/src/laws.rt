@@ -1,6 +1,6 @@
 //! Laws of codewords and of the definitions of tickets, each the contract of a function that does nothing.
 ghost use Rattle.kk_code.specs.Laws.{CodewordIsAGraph, CodewordsAreFarApart, DecodingIsUnique, AnswerIsTheMessage};
-ghost use Rattle.kk_code.specs.Laws.{TextIsOfATicket, TicketHasItsText, TicketHasOneText, TextIsATicketOrFaulty, TicketHasNoFault, TextHasOneFault};
+ghost use Rattle.kk_code.specs.Laws.{TextIsOfATicket, TicketHasItsText, TicketHasOneText, TextIsATicketOrFaulty, TicketHasNoFault, TextHasOneFault, TicketOfIsExact};
 
 /// What a text spells is a ticket: its numbers are in range, its modulus is irreducible, and its file isn't too long.
 pub fn text_is_of_a_ticket()
@@ -30,6 +30,11 @@ pub fn ticket_has_no_fault()
 /// A text has one first fault.
 pub fn text_has_one_fault()
     ensures { TextHasOneFault }
+{}
+
+/// What `ticket_of` computes of a text is the ticket that the text is, or its first fault.
+pub fn ticket_of_is_exact()
+    ensures { TicketOfIsExact }
 {}
 
 /// A row (x, y) is in the span of a codeword exactly where x is below 2^l and y is the value of its polynomial at x.

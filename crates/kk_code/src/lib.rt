@@ -18,7 +18,7 @@ mod ticket;
 mod writing;
 
 pub use bad_params::BadParams;
-pub use code::Code;
+pub use code::{Code, MAX_POINTS};
 pub use encoder::Encoder;
 pub use encoding::{encode, encode_with};
 pub use fault::TicketFault;

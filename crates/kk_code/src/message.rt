@@ -1,13 +1,15 @@
 //! Messages: what a codeword is made from.
 ghost use Rattle.std.specs.Prelude.{◌≡◌, ◌≤◌, List, ℕ, length};
+ghost use Rattle.kk_code.specs.declared.code.TheConstants.{MAX_POINTS};
 
+use crate::MAX_POINTS;
 use arrayvec::ArrayVec;
 use std::marker::Model;
 
-/// At most 64 symbols of a field, in order. It takes no memory from an allocator.
+/// At most [`MAX_POINTS`] symbols of a field, in order. It takes no memory from an allocator.
 #[derive(Debug, PartialEq, Eq, Drop)]
 pub struct Message {
-    symbols: ArrayVec<u64, 64>,
+    symbols: ArrayVec<u64, MAX_POINTS>,
 }
 
 impl Model for Message {
@@ -21,7 +23,7 @@ impl Model for Message {
 impl Message {
     /// The message with these symbols.
     pub fn from_slice(symbols: &[u64]) -> Self
-        requires { length symbols.now ≤ 64 }
+        requires { length symbols.now ≤ MAX_POINTS }
         ensures { result ≡ symbols.now }
     {
         let mut message = ArrayVec::new();
@@ -32,7 +34,7 @@ impl Message {
     /// The symbols, in order.
     pub fn symbols(&self) -> &[u64]
         ensures symbols { result.now ≡ self.now }
-        ensures few { length result.now ≤ 64 }
+        ensures few { length result.now ≤ MAX_POINTS }
     {
         self.symbols.as_slice()
     }

@@ -2,15 +2,16 @@
 ghost use Rattle.std.specs.Prelude.{◌≡◌, ℕ, List, ◌+◌, ◌^◌, ◌<◌, ◌≤◌, length};
 ghost use Rattle.kk_code.specs.Codeword.{IsInRange, IsMessage, Parameters};
 ghost use Rattle.kk_code.specs.Encoder.{AreElements, AreValuesFrom, value_at};
+ghost use Rattle.kk_code.specs.declared.code.TheConstants.{MAX_POINTS};
 
-use crate::Message;
 use crate::code::mask;
-use crate::encoder::{Encoder, MAX_SYMBOLS};
+use crate::encoder::Encoder;
+use crate::{MAX_POINTS, Message};
 
 /// The next values of a message's polynomial, `left` of them in a word, and the terms at the point of the last of these.
 #[derive(Drop)]
 pub(crate) struct Terms {
-    at_last: [u64; MAX_SYMBOLS],
+    at_last: [u64; MAX_POINTS],
     word: u64,
     left: u32,
 }
@@ -18,11 +19,11 @@ pub(crate) struct Terms {
 impl Terms {
     /// The values of a message's polynomial, from that at 1 on.
     pub(crate) fn of(u: &Message) -> Terms
-        requires { length u.now ≤ MAX_SYMBOLS }
+        requires { length u.now ≤ MAX_POINTS }
         ensures { (p : Parameters) → IsInRange p → IsMessage p u.now → AreElements p result.at_last × AreValuesFrom p u.now 0 result }
     {
         let symbols = u.symbols();
-        let mut at_last = [0; MAX_SYMBOLS];
+        let mut at_last = [0; MAX_POINTS];
         let mut word = 0;
         for j in 0..symbols.len() {
             at_last[j] = symbols[j];

@@ -1,5 +1,5 @@
 //! Worked tickets, codewords, distances and moduli.
-ghost use Rattle.std.specs.Prelude.{◌≡◌, ◌<◌, ◌≤◌, length};
+ghost use Rattle.std.specs.Prelude.{◌≡◌, ◌<◌, length};
 ghost use Rattle.kk_code.specs.Codeword.{IsMessage, codeword};
 
 use crate::{Code, CodeRows, Encoder, Message, Ticket, TicketFault, check_modulus, encode};

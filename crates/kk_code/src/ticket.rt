@@ -2,7 +2,7 @@
 ghost use Rattle.std.specs.Prelude.{◌≡◌, ℕ, ◌^◌, ◌*◌, ◌/◌, ◌<◌, ◌≤◌, ◌↔◌, Ok, Err, IfOk, IfErr, IsErr};
 ghost use Rattle.kk_code.specs.Codeword.{IsNarrow};
 ghost use Rattle.kk_code.specs.Ticket.{TicketFields, message_bits, generations, for_length, ticket_text};
-ghost use Rattle.kk_code.specs.TicketText.{IsTicket, IsTicketText, IsFirstFault};
+ghost use Rattle.kk_code.specs.TicketText.{IsTicket, IsTicketText, IsFirstFault, ticket_of};
 ghost use Rattle.kk_code.specs.Reading.{IsRefused, IsAnswer};
 
 use crate::parts::Parts;
@@ -105,6 +105,7 @@ impl Ticket {
     ///
     /// The first fault of a text that is no ticket.
     pub fn read(word: &str) -> Result<Self, TicketFault>
+        ensures value { result ≡ ticket_of word.now }
         ensures ticket { IfOk result (IsTicketText word.now) }
         ensures every { (t : TicketFields) → IsTicketText word.now t → result ≡ Ok t }
         ensures refused { IsErr result ↔ IsRefused word.now }

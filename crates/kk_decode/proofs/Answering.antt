@@ -7,10 +7,10 @@ use Rattle.kk_rows.proofs.Distances.{distance-same_span}
 use Rattle.kk_code.specs.Codeword.{Parameters, codeword}
 use Rattle.kk_code.specs.Decoding.{within_radius, messages, answer}
 
-near-same_span : (p : Parameters) (rows rows' : List ℕ) → ((x : ℕ) → in_span rows x ≡ in_span rows' x) → (u : List ℕ)
+within-same_span : (p : Parameters) (rows rows' : List ℕ) → ((x : ℕ) → in_span rows x ≡ in_span rows' x) → (u : List ℕ)
     → within_radius p rows u ≡ within_radius p rows' u
 unfolding within_radius
-near-same_span p rows rows' same u =
+within-same_span p rows rows' same u =
     ap (λ n. nat_le n (p.l - p.k)) (distance-same_span (codeword p u) (codeword p u) rows rows' (λ x. refl) same)
 
 find-same : (X : Type 0) (p q : X → Bool) → ((x : X) → p x ≡ q x) → (xs : List X) → find p xs ≡ find q xs
@@ -19,4 +19,4 @@ find-same X p q same (x ∷ xs) = ap₂ (λ b (r : Option X). cond b (Some x) r)
 
 pub answer-same_span : (p : Parameters) (rows rows' : List ℕ) → ((x : ℕ) → in_span rows x ≡ in_span rows' x) → answer p rows ≡ answer p rows'
 unfolding answer
-answer-same_span p rows rows' same = find-same (List ℕ) (within_radius p rows) (within_radius p rows') (near-same_span p rows rows' same) (messages p)
+answer-same_span p rows rows' same = find-same (List ℕ) (within_radius p rows) (within_radius p rows') (within-same_span p rows rows' same) (messages p)

@@ -1,5 +1,5 @@
 -- The fixed map gives the message of the values.
-use Rattle.std.proofs.Common.{◌≡◌, ℕ, zero, suc, ◌-◌, ◌^◌, ◌<◌, ◌≤◌, List, [], length, bit_xor, slice_index, get_or, refl, sym, ap, ◌∙◌, subst, arith}
+use Rattle.std.proofs.Common.{◌≡◌, ℕ, suc, ◌-◌, ◌^◌, ◌<◌, ◌≤◌, List, [], length, slice_index, get_or, sym, ap, ◌∙◌, subst, arith}
 use Rattle.std.specs.Prelude.{All}
 use Rattle.std.proofs.lemmas.Nat.{pow_below}
 use Rattle.std.proofs.lemmas.List.Elements.{All-from_get_or}
@@ -8,24 +8,17 @@ use Rattle.kk_field.proofs.Residues.{field_product_comm, field_product_assoc, xo
 use Rattle.kk_linpoly.specs.LinPoly.{IsOver, xor_sum, value}
 use Rattle.kk_linpoly.proofs.Coefficients.{coefficient-lt}
 use Rattle.kk_linpoly.specs.Matrix.{row_product}
-use Rattle.kk_linpoly.proofs.XorSums.{xor_sum-same, xor_sum-none, xor_sum-xor, xor_sum-mapped, xor_sum-single}
+use Rattle.kk_linpoly.proofs.XorSums.{xor_sum-same, xor_sum-mapped, xor_sum-single, xor_sum-swap}
 use Rattle.kk_code.specs.Codeword.{Parameters}
 use Rattle.kk_code.proofs.TermSums.{value-terms}
 use Rattle.kk_decode.specs.Solving.{IsOnGraph}
-use Rattle.kk_decode.specs.Basis.{element, column_value, IsBasis, AreValues}
+use Rattle.kk_decode.specs.FixedMap.{element, column_value, IsFixedMap, AreValues}
 
 -- a column depends on the first k rows alone
 pub column_value-same : (f : Modulus) (rows rows' : List (List ℕ)) (k c x : ℕ) → ((j : ℕ) → j < k → get_or rows j [] ≡ get_or rows' j [])
     → column_value f rows k c x ≡ column_value f rows' k c x
 column_value-same f rows rows' k c x same =
     xor_sum-same _ _ k (λ j less. ap (λ row. field_product f (slice_index row c) (frobenius f j x)) (same j less))
-
--- rows first or columns first
-pub xor_sum-swap : (p : ℕ → ℕ → ℕ) (n k : ℕ) → xor_sum (λ j. xor_sum (p j) n) k ≡ xor_sum (λ c. xor_sum (λ j. p j c) k) n
-unfolding xor_sum
-xor_sum-swap p n zero = sym (xor_sum-none (λ c. 0) n (λ c less. refl))
-xor_sum-swap p n (suc k) =
-    ap (λ x. bit_xor x (xor_sum (p k) n)) (xor_sum-swap p n k) ∙ sym (xor_sum-xor (λ c. xor_sum (λ j. p j c) k) (p k) n)
 
 module _ (f : Modulus) (h : f.low < 2 ^ f.degree) where
   -- the middle factor goes last
@@ -51,7 +44,7 @@ module _ (f : Modulus) (h : f.low < 2 ^ f.degree) where
       sym (xor_sum-mapped (λ a. field_product f a (slice_index v c)) (zero-field_product f h (slice_index v c)) (λ a b. xor-field_product f h a b (slice_index v c))
       (λ j. field_product f (element rows j c) (power j)) k))
 
-module _ (p : Parameters) (h : p.field.low < 2 ^ p.field.degree) (rows : List (List ℕ)) (basis : IsBasis p rows) (w u : List ℕ) (long : length w ≡ p.k) (over : IsOver p.field.degree w) (message : length u ≡ p.k) (each : (j : ℕ) → j < p.k → slice_index u j ≡ row_product p.field w (get_or rows j [])) where
+module _ (p : Parameters) (h : p.field.low < 2 ^ p.field.degree) (rows : List (List ℕ)) (fixed : IsFixedMap p rows) (w u : List ℕ) (long : length w ≡ p.k) (over : IsOver p.field.degree w) (message : length u ≡ p.k) (each : (j : ℕ) → j < p.k → slice_index u j ≡ row_product p.field w (get_or rows j [])) where
   by_columns : (x : ℕ) → value p.field u x ≡ xor_sum (λ c. field_product p.field (column_value p.field rows p.k c x) (slice_index w c)) p.k
   by_columns x =
       value_by_columns p.field h rows w u p.k x message
@@ -63,15 +56,15 @@ module _ (p : Parameters) (h : p.field.low < 2 ^ p.field.degree) (rows : List (L
       let f = p.field in
       by_columns (2 ^ i)
       ∙ xor_sum-single (λ c. field_product f (column_value f rows p.k c (2 ^ i)) (slice_index w c)) p.k i less
-      (λ c below apart. ap (λ a. field_product f a (slice_index w c)) (basis.zeros c i below less apart) ∙ zero-field_product f h (slice_index w c))
-      ∙ ap (λ a. field_product f a (slice_index w i)) (basis.one i less) ∙ one-field_product f h (slice_index w i) (coefficient-lt f.degree w over i)
+      (λ c below apart. ap (λ a. field_product f a (slice_index w c)) (fixed.zeros c i below less apart) ∙ zero-field_product f h (slice_index w c))
+      ∙ ap (λ a. field_product f a (slice_index w i)) (fixed.one i less) ∙ one-field_product f h (slice_index w i) (coefficient-lt f.degree w over i)
 
   -- at the others it has those of the map
   pub value_at_other : (i : ℕ) → p.k ≤ i → i < p.l → value p.field u (2 ^ i) ≡ row_product p.field w (get_or rows i [])
   value_at_other i past less =
       let f = p.field in
       by_columns (2 ^ i)
-      ∙ xor_sum-same _ _ p.k (λ c below. ap (λ a. field_product f a (slice_index w c)) (basis.others c i below past less))
+      ∙ xor_sum-same _ _ p.k (λ c below. ap (λ a. field_product f a (slice_index w c)) (fixed.others c i below past less))
       ∙ ap (xor_sum (λ c. field_product f (element rows i c) (slice_index w c))) (sym long)
 
 -- the rows of the values are on the graph of a polynomial that has them

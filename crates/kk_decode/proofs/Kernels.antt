@@ -7,7 +7,7 @@ use Rattle.kk_field.proofs.Sums.{sums}
 use Rattle.kk_rows.specs.Span.{in_span, dimension, IsIndependent}
 use Rattle.kk_rows.specs.AdditiveMap.{IsAdditive}
 use Rattle.kk_rows.proofs.Spans.{in_span-nil, in_span-xor, in_span-xor_back, in_span-push_cases, in_span-push_skip, in_span-push_use}
-use Rattle.kk_rows.proofs.Dimensions.{innovative_behind-nil, dimension-push_inside, dimension-push_outside}
+use Rattle.kk_rows.proofs.Dimensions.{innovative_after-nil, dimension-push_inside, dimension-push_outside}
 use Rattle.kk_rows.proofs.Independence.{independent-push}
 use Rattle.kk_rows.proofs.AdditiveMaps.{additive-zero, in_span-map, in_span-of_map}
 
@@ -21,7 +21,7 @@ pub record Kernel (g : ℕ → ℕ) (rows ws : List ℕ) : Type 0 where
 module _ (g : ℕ → ℕ) (additive : IsAdditive g) where
   kernel_nothing : Kernel g [] []
   kernel_nothing = record {
-    independent = ap length (innovative_behind-nil []);
+    independent = ap length (innovative_after-nil []);
     members = λ x k. (k, ap g (in_span-nil x k) ∙ additive-zero g additive);
     all = λ x k e. k;
     count = omega arith;
@@ -118,12 +118,12 @@ module _ (g : ℕ → ℕ) (additive : IsAdditive g) where
     ]
   ]
 
-  kernel_behind : (before rows ws : List ℕ) → Kernel g before ws → (ws : List ℕ) × Kernel g (before ++ rows) ws
-  kernel_behind before [] ws h = (ws, subst (λ l. Kernel g l ws) (sym (append-nil before)) h)
-  kernel_behind before (v ∷ rows) ws h =
+  kernel_after : (before rows ws : List ℕ) → Kernel g before ws → (ws : List ℕ) × Kernel g (before ++ rows) ws
+  kernel_after before [] ws h = (ws, subst (λ l. Kernel g l ws) (sym (append-nil before)) h)
+  kernel_after before (v ∷ rows) ws h =
       let next = kernel_step before ws v h in
-      let rest = kernel_behind (before ++ v ∷ []) rows next.0 next.1 in
+      let rest = kernel_after (before ++ v ∷ []) rows next.0 next.1 in
       (rest.0, subst (λ l. Kernel g l rest.0) (append_assoc before (v ∷ []) rows) rest.1)
 
   pub kernel : (rows : List ℕ) → (ws : List ℕ) × Kernel g rows ws
-  kernel rows = kernel_behind [] rows [] kernel_nothing
+  kernel rows = kernel_after [] rows [] kernel_nothing

@@ -8,5 +8,6 @@ pub mod Losses
 pub mod Kernels
 pub mod Offsets
 pub mod Columns
+pub mod Counts
 pub mod Costs
 pub mod Elements

@@ -21,9 +21,9 @@ on_graph_member p h u r on =
     subst (λ w. in_span (codeword p u) w ≡ true) row (in_codeword p h u (r / n) on.x)
 
 -- a space of rows of one codeword is within the radius from the dimension k on
-pub near_of_part : (p : Parameters) → IsCode p → (rows u : List ℕ) → p.k ≤ dimension rows → All (IsOnGraph p u) rows
+pub within_of_part : (p : Parameters) → IsCode p → (rows u : List ℕ) → p.k ≤ dimension rows → All (IsOnGraph p u) rows
     → distance (codeword p u) rows ≤ p.l - p.k
-near_of_part p code rows u enough each =
+within_of_part p code rows u enough each =
     let c = codeword p u in
     let within = in_span-within rows c (All-weaker (IsOnGraph p u) (λ r. in_span c r ≡ true) (on_graph_member p code.field.modulus.low_below u) rows each) in
     let sum = dimension-le_within (c ++ rows) c (in_span-append_least c rows c (λ x k. k) within) in

@@ -9,15 +9,15 @@ use Rattle.kk_code.proofs.Graphs.{dimension-codeword}
 pub Decodes-same_span : (p : Parameters) (rows rows' u : List ℕ) → ((x : ℕ) → in_span rows x ≡ in_span rows' x) → Decodes p rows u → Decodes p rows' u
 Decodes-same_span p rows rows' u same d = record {
   message = d.message;
-  near = subst (λ n. n ≤ p.l - p.k) (distance-same_span (codeword p u) (codeword p u) rows rows' (λ x. refl) same) d.near;
+  within = subst (λ n. n ≤ p.l - p.k) (distance-same_span (codeword p u) (codeword p u) rows rows' (λ x. refl) same) d.within;
 }
 
 pub rank_in_reach : (p : Parameters) → IsCode p → (rows u : List ℕ) → Decodes p rows u → (p.k ≤ dimension rows) × (dimension rows + p.k ≤ 2 * p.l)
 rank_in_reach p code rows u d =
     let c = codeword p u in
-    let near = d.near in
+    let within = d.within in
     let left = meet_dimension-le_left c rows in
     let right = meet_dimension-le_right c rows in
     let whole = distance_by_meet c rows in
     let l = dimension-codeword p code.field.modulus.low_below u in
-    (omega (arith, near, right, whole, l, code.k_high), omega (arith, near, left, whole, l, code.k_high))
+    (omega (arith, within, right, whole, l, code.k_high), omega (arith, within, left, whole, l, code.k_high))

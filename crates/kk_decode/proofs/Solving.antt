@@ -79,7 +79,7 @@ solves p code low rows u q d over some zero_on light =
     let xs = w.0 in
     let r = dimension rows in
     let n = length xs in
-    let radius = d.near in
+    let radius = d.within in
     let most : r + p.k ≤ 2 * n =
     omega (arith, radius, distance_by_meet c rows, meet_dimension_comm c rows, w.2, dimension-codeword p h u, code.k_high) in
     let within : n ≤ r = omega (arith, w.2, meet_dimension-le_left rows c) in

@@ -1,4 +1,4 @@
 pub mod Solving
 pub mod Offset
-pub mod Basis
+pub mod FixedMap
 pub mod Laws

@@ -6,18 +6,19 @@ ghost use Rattle.kk_code.specs.Codeword.{width};
 ghost use Rattle.kk_code.specs.Decoding.{Decodes, answer};
 
 use crate::Scratch;
+use crate::by_map::decode_by_map;
 use crate::candidate::candidate;
+use crate::distance::is_within_radius;
 use crate::interpolate::give;
-use crate::near::is_near;
-use crate::part::direct;
 use crate::spaces::spanned;
-use crate::whole::whole;
+use crate::uninjected::decode_uninjected;
 use kk_code::{Code, Message};
 use kk_field::Steps;
 use kk_interp::Interp;
 use kk_rows::{Row, RowSpace};
 use kk_tables::FieldTables;
-use std::sync::ledger::Ledger;
+use std::marker::Brand;
+use std::sync::ledger::{Blank, Ledger};
 
 /// The message whose codeword lies within distance l - k of the span of the rows, or `None` where there is none.
 pub fn decode<L: Ledger>(
@@ -58,13 +59,42 @@ pub fn decode_space<L: Ledger>(
     }
     scratch.renew(code, steps);
     let tables = &scratch.tables;
-    if let Some(u) = whole(code, tables, &scratch.basis, space) {
+    if let Some(u) = decode_by_map(code, tables, &scratch.map, space) {
         return Some(u);
     }
     interpolated(code, tables, space, steps)
 }
 
-/// The same for a space of k to 2·l - k dimensions, by interpolation.
+/// [`decode_space`] for who counts no steps: they count for nobody.
+pub fn decode_uncounted(code: &Code, space: &RowSpace, scratch: &mut Scratch) -> Option<Message>
+    requires width { space.now.width ≡ width code.now }
+    ensures some { IfSome result (Decodes code.now space.now.rows) }
+    ensures none { IfNone result ((u : List ℕ) → Decodes code.now space.now.rows u → ⊥) }
+    ensures answer { result ≡ answer code.now space.now.rows }
+{
+    decode_named::<Brand>(code, space, scratch, Blank::new(1))
+}
+
+/// The same with a name for the step counter.
+fn decode_named<L: Ledger>(
+    code: &Code,
+    space: &RowSpace,
+    scratch: &mut Scratch,
+    blank: Blank,
+) -> Option<Message>
+    requires name { blank.name ≡ L.name }
+    requires parts { blank.parts ≡ L.parts }
+    requires one_or_more { 0 < blank.parts }
+    requires width { space.now.width ≡ width code.now }
+    ensures some { IfSome result (Decodes code.now space.now.rows) }
+    ensures none { IfNone result ((u : List ℕ) → Decodes code.now space.now.rows u → ⊥) }
+    ensures answer { result ≡ answer code.now space.now.rows }
+{
+    let mut steps = Steps::<L>::new(blank);
+    decode_space(code, space, scratch, &mut steps)
+}
+
+/// [`decode_space`] for a space of k to 2·l - k dimensions, by interpolation.
 ///
 /// The first k rows are tried first: where nothing was injected, they give the message, and that all rows are of its codeword
 /// shows it. Else all rows are interpolated, and the message that they give is the only one that can decode the space; its
@@ -90,12 +120,12 @@ fn interpolated<L: Ledger>(
     let (first, others) = space.rows().split_at(k as usize);
     let mut interp = Interp::new(code.field(), k);
     give(code, tables, first, &mut interp, steps);
-    if let Some(u) = direct(code, tables, space, &interp, steps) {
+    if let Some(u) = decode_uninjected(code, tables, space, &interp, steps) {
         return Some(u);
     }
     give(code, tables, others, &mut interp, steps);
     let u = candidate(code, tables, &interp, steps)?;
-    if is_near(code, tables, space, &u, steps) {
+    if is_within_radius(code, tables, space, &u, steps) {
         Some(u)
     } else {
         None

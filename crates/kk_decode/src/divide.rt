@@ -1,12 +1,13 @@
 //! The message that a polynomial gives.
 ghost use Rattle.std.specs.Prelude.{◌≡◌, ◌≢◌, ◌⊎◌, ℕ, ◌+◌, ◌-◌, ◌*◌, ◌≤◌, List, slice_index, [], ◌++◌, length, replicate, Some, IfSome};
 ghost use Rattle.kk_field.specs.Laws.{IsFieldModulus};
-ghost use Rattle.kk_linpoly.specs.LinPoly.{IsOver, SamePolynomial, trimmed};
+ghost use Rattle.kk_linpoly.specs.LinPoly.{IsOver, trimmed};
 ghost use Rattle.kk_interp.specs.BiPoly.{IsOfField};
 ghost use Rattle.kk_code.specs.Codeword.{IsMessage};
+ghost use Rattle.kk_code.specs.declared.code.TheConstants.{MAX_POINTS};
 ghost use Rattle.kk_decode.specs.Solving.{Solves};
 
-use kk_code::{Code, Message};
+use kk_code::{Code, MAX_POINTS, Message};
 use kk_field::Steps;
 use kk_interp::BiPoly;
 use kk_linpoly::LinPoly;
@@ -61,11 +62,11 @@ pub(crate) fn message_of(code: &Code, g: &LinPoly) -> Option<Message>
 }
 
 /// The coefficients with zeros after them.
-fn padded(coefficients: &[u64]) -> [u64; 64]
-    requires { length coefficients.now ≤ 64 }
-    ensures { result ≡ coefficients.now ++ replicate (64 - length coefficients.now) 0 }
+fn padded(coefficients: &[u64]) -> [u64; MAX_POINTS]
+    requires { length coefficients.now ≤ MAX_POINTS }
+    ensures { result ≡ coefficients.now ++ replicate (MAX_POINTS - length coefficients.now) 0 }
 {
-    let mut symbols = [0; 64];
+    let mut symbols = [0; MAX_POINTS];
     symbols[..coefficients.len()].copy_from_slice(coefficients);
     symbols
 }

@@ -6,21 +6,23 @@
 //! 2008, section V), and tested by its distance.
 #![tactic(auto)]
 
-mod basis;
+mod by_map;
 mod candidate;
 mod decoder;
+mod distance;
 mod divide;
+mod fixed_map;
+mod injected;
 mod interpolate;
 pub mod laws;
 mod loss;
-mod near;
-mod part;
+mod powers;
 mod scratch;
 mod spaces;
+mod uninjected;
 mod weights;
-mod whole;
 
-pub use decoder::{decode, decode_space};
+pub use decoder::{decode, decode_space, decode_uncounted};
 pub use loss::{Loss, channel_loss};
 pub use scratch::Scratch;
 

@@ -1,10 +1,11 @@
 //! What a channel did to a codeword.
 ghost use Rattle.std.specs.Prelude.{◌≡◌, ◌+◌, ◌*◌, ◌^◌, ◌<◌, ◌≤◌, All};
 ghost use Rattle.kk_rows.specs.Rows.{numbers};
-ghost use Rattle.kk_code.specs.Codeword.{IsMessage, width};
+ghost use Rattle.kk_code.specs.Codeword.{IsInRange, IsMessage, width};
 ghost use Rattle.kk_code.specs.Decoding.{erased, injected};
 
-use crate::spaces::{sent, spanned};
+use crate::injected::injected_by_offsets;
+use crate::spaces::spanned;
 use kk_code::{Code, Message};
 use kk_field::Steps;
 use kk_rows::{Row, RowSpace};
@@ -28,11 +29,31 @@ pub fn channel_loss<L: Ledger>(code: &Code, u: &Message, rows: &[Row], steps: &m
     ensures injected { result.injected ≡ injected code.now (numbers rows.now) u.now }
     ensures cost { steps.new ≤ steps.old + 2 * code.now.field.degree * code.now.k }
 {
-    let sent = sent(code, &FieldTables::new(code.field()), u, steps);
     let received = spanned(code, rows);
-    let sum = RowSpace::sum(&sent, &received).rank();
+    let tables = FieldTables::new(code.field());
+    loss_of(code, &tables, &received, u, steps)
+}
+
+/// The same on the way to the space, with the tables of the code's field.
+pub(crate) fn loss_of<L: Ledger>(
+    code: &Code,
+    tables: &FieldTables,
+    space: &RowSpace,
+    u: &Message,
+    steps: &mut Steps<L>,
+) -> Loss
+    requires tables { tables.now ≡ code.now.field }
+    requires width { space.now.width ≡ width code.now }
+    requires message { IsMessage code.now u.now }
+    ensures erased { result.erased ≡ erased code.now space.now.rows u.now }
+    ensures injected { result.injected ≡ injected code.now space.now.rows u.now }
+    ensures within { result.injected ≤ space.now.width }
+    ensures in_range { IsInRange code.now }
+    ensures cost { steps.new ≤ steps.old + code.now.l * (2 * code.now.k) }
+{
+    let injected = injected_by_offsets(code, tables, space, u, steps);
     Loss {
-        erased: sum - received.rank(),
-        injected: sum - sent.rank(),
+        erased: code.l() - (space.rank() - injected),
+        injected,
     }
 }

@@ -1,19 +1,19 @@
 //! The storage that a receiver keeps from one decoding to the next.
 ghost use Rattle.std.specs.Prelude.{◌≡◌, ◌+◌, ◌*◌, ◌≤◌};
 
-use crate::basis::Basis;
+use crate::fixed_map::FixedMap;
 use kk_code::Code;
 use kk_field::{Field, Ring, Steps};
 use kk_tables::FieldTables;
 use std::sync::ledger::Ledger;
 
-/// The tables of the code's field and the fixed map of the code, made once for many generations: 56 KB.
+/// The tables of the code's field and the fixed map of the code, made once for many generations: 128 KB.
 ///
 /// It serves codes of any parameters one after another, and its content never changes an answer.
 #[derive(Drop)]
 pub struct Scratch {
     pub(crate) tables: FieldTables,
-    pub(crate) basis: Basis,
+    pub(crate) map: FixedMap,
 }
 
 impl Scratch {
@@ -21,7 +21,7 @@ impl Scratch {
     pub fn new() -> Scratch {
         Scratch {
             tables: FieldTables::new(Field::of(Ring::new(2, 3))),
-            basis: Basis::none(),
+            map: FixedMap::none(),
         }
     }
 
@@ -31,10 +31,9 @@ impl Scratch {
         ensures cost { steps.new ≤ steps.old + (code.now.k + code.now.k * (4 * code.now.k + 2 * code.now.field.degree + 1)
             + code.now.l * (code.now.k * (code.now.k + 1))) }
     {
-        let (held, wanted) = (self.tables.field().ring(), code.field().ring());
-        if held.m() != wanted.m() || held.low() != wanted.low() {
+        if self.tables.field() != code.field() {
             self.tables.renew(code.field());
         }
-        self.basis.renew(code, &self.tables, steps);
+        self.map.renew(code, &self.tables, steps);
     }
 }

@@ -4,10 +4,10 @@ ghost use Rattle.kk_rows.specs.Rows.{numbers};
 ghost use Rattle.kk_code.specs.Codeword.{IsMessage, width};
 ghost use Rattle.kk_code.specs.Decoding.{answer};
 
-use crate::basis::Basis;
+use crate::by_map::decode_by_map;
+use crate::fixed_map::FixedMap;
 use crate::spaces::spanned;
-use crate::whole::whole;
-use crate::{Loss, Scratch, channel_loss, decode, decode_space};
+use crate::{Loss, Scratch, channel_loss, decode, decode_space, decode_uncounted};
 use kk_code::{Code, CodeRows, Message, Ticket, check_modulus, encode};
 use kk_field::Steps;
 use kk_rows::{Alloc, Row, RowSpace};
@@ -242,11 +242,27 @@ fn widest_answer<L: Ledger>(rows: &[Row], blank: Blank) -> Option<Message>
 
 #[test]
 fn the_widest_code_decodes_on_its_radius_alone(rt: HostRuntime) -> Result<(), Fail> {
-    let near = half_foreign(rt.alloc(), 31)?;
+    let on_radius = half_foreign(rt.alloc(), 31)?;
     let far = half_foreign(rt.alloc(), 32)?;
-    let u = widest_answer::<Brand>(&near, Blank::new(1)).ok_or("no answer")?;
+    let u = widest_answer::<Brand>(&on_radius, Blank::new(1)).ok_or("no answer")?;
     assert_eq!(rt; u.symbols(), [1].as_slice());
     assert!(rt; widest_answer::<Brand>(&far, Blank::new(1)).is_none());
+    Ok(())
+}
+
+// What the rows decode to, where they are of the code, for a caller that counts no steps.
+fn uncounted(code: &Code, rows: &[Row]) -> Option<Message> {
+    if !are_rows_of(code, rows) {
+        return None;
+    }
+    decode_uncounted(code, &spanned(code, rows), &mut Scratch::new())
+}
+
+#[test]
+fn a_space_decodes_without_a_step_counter(rt: HostRuntime) -> Result<(), Fail> {
+    let code = Ticket::read("kk1:00000001:3:0000000000000003:3:1:1")?.code();
+    let u = uncounted(&code, &[Row(13), Row(17), Row(34)]).ok_or("no answer")?;
+    assert_eq!(rt; u.symbols(), [5].as_slice());
     Ok(())
 }
 
@@ -320,9 +336,9 @@ fn mapped<L: Ledger>(code: &Code, rows: &[Row], blank: Blank) -> Option<Message>
     }
     let mut steps: Steps<L> = Steps::new(blank);
     let tables = FieldTables::new(code.field());
-    let mut basis = Basis::none();
-    basis.renew(code, &tables, &mut steps);
-    whole(code, &tables, &basis, &spanned(code, rows))
+    let mut map = FixedMap::none();
+    map.renew(code, &tables, &mut steps);
+    decode_by_map(code, &tables, &map, &spanned(code, rows))
 }
 
 #[test]

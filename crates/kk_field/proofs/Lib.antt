@@ -9,4 +9,5 @@ pub mod RangeProducts
 pub mod Powers
 pub mod Elimination
 pub mod Criterion
+pub mod Irreducible
 pub mod Examples

@@ -1,6 +1,7 @@
 -- Worked values in GF(8) with the modulus X^3 + X + 1.
-use Rattle.std.specs.Prelude.{◌≡◌, ℕ, suc, zero, refl, List, [], ◌∷◌}
-use Rattle.kk_field.specs.Polynomial.{product, product_below, remainder, remainder_below}
+use Rattle.std.specs.Prelude.{◌≡◌, ℕ, suc, zero, true, false, refl, List, [], ◌∷◌, filter}
+use Rattle.std.specs.List.{range_with_len}
+use Rattle.kk_field.specs.Polynomial.{product, product_below, irreducible, remainder, remainder_below}
 use Rattle.kk_field.specs.Field.{Modulus, field_product, frobenius}
 
 abbrev pub gf8 : Modulus
@@ -42,3 +43,21 @@ three_is_left = refl
 pub times_x : product 11 2 ≡ 22
 unfolding product product_below
 times_x = refl
+
+-- the irreducible polynomials of degree at most 3: X, X + 1, X^2 + X + 1, X^3 + X + 1 and X^3 + X^2 + 1
+pub irreducible_below_sixteen : filter irreducible (range_with_len 0 16) ≡ 2 ∷ 3 ∷ 7 ∷ 11 ∷ 13 ∷ []
+unfolding irreducible product product_below
+irreducible_below_sixteen = refl
+
+pub seven_is_irreducible : irreducible 7 ≡ true
+unfolding irreducible product product_below
+seven_is_irreducible = refl
+
+pub eleven_is_irreducible : irreducible 11 ≡ true
+unfolding irreducible product product_below
+eleven_is_irreducible = refl
+
+-- X^2 + 1 is the square of X + 1
+pub five_is_reducible : irreducible 5 ≡ false
+unfolding irreducible product product_below
+five_is_reducible = refl

@@ -10,7 +10,7 @@ use std::marker::Model;
 use std::sync::ledger::Ledger;
 
 /// The field GF(2^m), for m from 1 to 64: a `Ring` whose modulus is irreducible.
-#[derive(Clone, Copy)]
+#[derive(Clone, Copy, Debug, PartialEq, Eq)]
 pub struct Field {
     ring: Ring,
 }

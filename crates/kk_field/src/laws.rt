@@ -12,6 +12,7 @@ ghost use Rattle.kk_field.specs.Laws.{
   FrobeniusIsInjective,
   FrobeniusOfDegree,
   PowerOfOrder,
+  IrreducibleIsDecided,
   IrreducibilityCriterion,
 };
 
@@ -63,6 +64,11 @@ pub fn frobenius_of_degree()
 /// Fermat's theorem: modulo an irreducible polynomial of degree m, a^(2^m - 1) is 1 for each a except 0.
 pub fn power_of_order()
     ensures { PowerOfOrder }
+{}
+
+/// `irreducible`, which tries all products, is true exactly where a polynomial is irreducible.
+pub fn irreducible_is_decided()
+    ensures { IrreducibleIsDecided }
 {}
 
 /// What tells an irreducible modulus: X^(2^m) is X, and only 0 and 1 are their own squares.

@@ -1,6 +1,6 @@
 //! The ring of residues modulo X^m + low, and the test whether it is a field.
 ghost use Rattle.std.specs.Prelude.{◌≡◌, ◌+◌, ◌^◌, ◌<◌, ◌≤◌, ◌↔◌, IsTrue};
-ghost use Rattle.kk_field.specs.Polynomial.{IsIrreducible};
+ghost use Rattle.kk_field.specs.Polynomial.{IsIrreducible, irreducible};
 ghost use Rattle.kk_field.specs.Field.{polynomial, field_product, frobenius};
 ghost use Rattle.kk_field.specs.Laws.{IsModulus, FrobeniusFixesX, OnlyTrivialIdempotents};
 
@@ -12,7 +12,7 @@ use std::sync::ledger::Ledger;
 /// Arithmetic on residues modulo X^m + low, for m from 1 to 64.
 ///
 /// It is the field GF(2^m) where that polynomial is irreducible, and a ring with zero divisors where it is not.
-#[derive(Clone, Copy)]
+#[derive(Clone, Copy, Debug, PartialEq, Eq)]
 pub struct Ring {
     m: u32,
     low: u64,
@@ -167,7 +167,8 @@ impl Ring {
     /// which rules out two factors with no common factor. That factors show in these residues is from E. R. Berlekamp,
     /// "Factoring polynomials over finite fields", 1967.
     pub fn is_irreducible(&self) -> bool
-        ensures { IsTrue result ↔ IsIrreducible (polynomial self.now) }
+        ensures exact { IsTrue result ↔ IsIrreducible (polynomial self.now) }
+        ensures value { result ≡ irreducible (polynomial self.now) }
     {
         self.frobenius_fixes_x() && self.only_trivial_idempotents()
     }

@@ -2,6 +2,7 @@ pub mod Texts
 pub mod Readings
 pub mod Stops
 pub mod Intakes
+pub mod Asks
 pub mod Captures
 pub mod Generations
 pub mod Batches

@@ -14,7 +14,7 @@ use Rattle.kk_frame.specs.declared.gate_count.Ended.TheVariants as ended
 use Rattle.kk_frame.specs.declared.gate_count.Refused.{Refused}
 use Rattle.kk_frame.specs.declared.gate_count.GateCount.{GateCount}
 use Rattle.kk_frame.specs.Datagram.{has_datagram_length, has_end, readings, data_frames}
-use Rattle.kk_frame.specs.Events.{datagrams, refused_of, counts_over, ends_with, reads_end, is_quiet, is_fault, last_quiets, end_with, shortest_prefix}
+use Rattle.kk_frame.specs.Events.{datagrams, refused_of, counts_over, ends_with, reads_end, is_quiet, is_fault_event, last_quiets, end_with, shortest_prefix}
 use Rattle.kk_frame.specs.Counting.{sum_of}
 use Rattle.kk_frame.specs.Laws.{IsShortestPrefix, StopIsShortestPrefix}
 use Rattle.kk_frame.proofs.Readings.{data_frames-append, refused_of-append}
@@ -122,17 +122,17 @@ ended_by : (end : Bool) (datagrams most idle quiets : ℕ) (fault : Bool) → Op
 ended_by end datagrams most idle quiets fault =
     cond end (Some ended.End) (cond (datagrams == most) (Some ended.Most) (cond (nat_le idle quiets) (Some ended.Idle) (cond fault (Some ended.Fault) None)))
 
-end_with-is : (size : ℕ) (t : TicketFields) (limits : Limits) (es : List Event) → end_with size t limits es ≡ ended_by (ends_with (reads_end size t) es) (length (datagrams es)) limits.most limits.idle (last_quiets es) (ends_with is_fault es)
+end_with-is : (size : ℕ) (t : TicketFields) (limits : Limits) (es : List Event) → end_with size t limits es ≡ ended_by (ends_with (reads_end size t) es) (length (datagrams es)) limits.most limits.idle (last_quiets es) (ends_with is_fault_event es)
 unfolding end_with ended_by
 end_with-is size t limits es = refl
 
-end_with-push : (size : ℕ) (t : TicketFields) (limits : Limits) (es : List Event) (e : Event) (n q : ℕ) → length (datagrams (es ++ e ∷ [])) ≡ n → last_quiets (es ++ e ∷ []) ≡ q → end_with size t limits (es ++ e ∷ []) ≡ ended_by (reads_end size t e) n limits.most limits.idle q (is_fault e)
+end_with-push : (size : ℕ) (t : TicketFields) (limits : Limits) (es : List Event) (e : Event) (n q : ℕ) → length (datagrams (es ++ e ∷ [])) ≡ n → last_quiets (es ++ e ∷ []) ≡ q → end_with size t limits (es ++ e ∷ []) ≡ ended_by (reads_end size t e) n limits.most limits.idle q (is_fault_event e)
 end_with-push size t limits es e n q count quiets =
     end_with-is size t limits (es ++ e ∷ [])
-    ∙ ap (λ b. ended_by b (length (datagrams (es ++ e ∷ []))) limits.most limits.idle (last_quiets (es ++ e ∷ [])) (ends_with is_fault (es ++ e ∷ []))) (ends_with-push (reads_end size t) es e)
-    ∙ ap (λ b. ended_by (reads_end size t e) (length (datagrams (es ++ e ∷ []))) limits.most limits.idle (last_quiets (es ++ e ∷ [])) b) (ends_with-push is_fault es e)
-    ∙ ap (λ k. ended_by (reads_end size t e) k limits.most limits.idle (last_quiets (es ++ e ∷ [])) (is_fault e)) count
-    ∙ ap (λ k. ended_by (reads_end size t e) n limits.most limits.idle k (is_fault e)) quiets
+    ∙ ap (λ b. ended_by b (length (datagrams (es ++ e ∷ []))) limits.most limits.idle (last_quiets (es ++ e ∷ [])) (ends_with is_fault_event (es ++ e ∷ []))) (ends_with-push (reads_end size t) es e)
+    ∙ ap (λ b. ended_by (reads_end size t e) (length (datagrams (es ++ e ∷ []))) limits.most limits.idle (last_quiets (es ++ e ∷ [])) b) (ends_with-push is_fault_event es e)
+    ∙ ap (λ k. ended_by (reads_end size t e) k limits.most limits.idle (last_quiets (es ++ e ∷ [])) (is_fault_event e)) count
+    ∙ ap (λ k. ended_by (reads_end size t e) n limits.most limits.idle k (is_fault_event e)) quiets
 
 pub end_with-nil : (size : ℕ) (t : TicketFields) (limits : Limits) → 1 ≤ limits.idle → 1 ≤ limits.most → end_with size t limits [] ≡ None
 unfolding end_with

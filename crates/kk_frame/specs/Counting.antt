@@ -1,11 +1,20 @@
--- One datagram more in the counts of a gate.
-use Rattle.std.specs.Prelude.{◌≡◌, ℕ, ◌+◌, ◌≤◌, List}
+-- The counts of a gate before any event, and with one datagram more.
+use Rattle.std.specs.Prelude.{◌≡◌, ℕ, ◌+◌, ◌≤◌, None, List}
 use Rattle.kk_frame.specs.declared.fault.FrameFault.{FrameFault}
 use Rattle.kk_frame.specs.declared.fault.FrameFault.TheVariants.{Magic, Version, Kind, Session, Generation, Row, EndRow}
+use Rattle.kk_frame.specs.declared.gate_count.GateCount.{GateCount}
 use Rattle.kk_frame.specs.declared.gate_count.Refused.{Refused}
 use Rattle.kk_frame.specs.declared.received.Received.{Received}
 use Rattle.kk_frame.specs.Datagram.{Reading, has_end, data_frames}
 use Rattle.kk_frame.specs.Events.{refused_of}
+
+-- nothing was refused
+abbrev pub none_refused : Refused
+none_refused = record { badlength = 0; magic = 0; version = 0; kind = 0; session = 0; generation = 0; row = 0; endrow = 0 }
+
+-- the counts of a gate that was not asked
+abbrev pub no_counts : GateCount
+no_counts = record { ended = None; datagrams = 0; frames = 0; refused = none_refused }
 
 -- one piece more that breaks this rule
 abbrev pub one_more : FrameFault → Refused → Refused

@@ -19,6 +19,7 @@ pieces size bytes = first_chunks size (length bytes / size) bytes
 abbrev pub Reading : Type 0
 Reading = Result FrameValue FrameFault
 
+-- whether END was read of a piece
 abbrev pub is_end : Reading → Bool
 is_end (Ok (Vector generation row)) = false
 is_end (Ok End) = true

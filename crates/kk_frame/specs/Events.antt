@@ -14,6 +14,7 @@ use Rattle.kk_frame.specs.Datagram.{Reading, has_datagram_length, has_end, readi
 
 -- ---- what the events hold
 
+-- the bytes of each datagram of the events, in order
 abbrev pub datagrams : List Event → List (List ℕ)
 datagrams [] = []
 datagrams (Datagram bytes ∷ events) = bytes ∷ datagrams events
@@ -34,6 +35,7 @@ place Generation = 4
 place Row = 5
 place EndRow = 6
 
+-- what was read of a piece is that it breaks this rule first
 abbrev pub breaks : FrameFault → Reading → Bool
 breaks fault (Ok frame) = false
 breaks fault (Err told) = place told == place fault
@@ -78,15 +80,17 @@ reads_end size t (Datagram bytes) = has_end (readings size t bytes)
 reads_end size t Quiet = false
 reads_end size t Fault = false
 
+-- no datagram came for a while
 abbrev pub is_quiet : Event → Bool
 is_quiet (Datagram bytes) = false
 is_quiet Quiet = true
 is_quiet Fault = false
 
-abbrev pub is_fault : Event → Bool
-is_fault (Datagram bytes) = false
-is_fault Quiet = false
-is_fault Fault = true
+-- the gate failed
+abbrev pub is_fault_event : Event → Bool
+is_fault_event (Datagram bytes) = false
+is_fault_event Quiet = false
+is_fault_event Fault = true
 
 -- how many quiets stand at the end of the events
 abbrev pub last_quiets : List Event → ℕ
@@ -99,7 +103,7 @@ end_with size t limits events =
     if ends_with (reads_end size t) events then Some ended.End
     else (if length (datagrams events) == limits.most then Some ended.Most
     else (if nat_le limits.idle (last_quiets events) then Some ended.Idle
-    else (if ends_with is_fault events then Some ended.Fault
+    else (if ends_with is_fault_event events then Some ended.Fault
     else None)))
 
 -- the shortest prefix that passes the test, or the whole list where none does
@@ -138,3 +142,12 @@ overs_to (Some ended.Most) = 0
 overs_to (Some ended.Idle) = 0
 overs_to (Some ended.Fault) = 0
 overs_to (Some ended.Over) = 1
+
+-- A gate that ended so failed.
+abbrev pub ended_by_fault : Option Ended → Bool
+ended_by_fault None = false
+ended_by_fault (Some ended.End) = false
+ended_by_fault (Some ended.Most) = false
+ended_by_fault (Some ended.Idle) = false
+ended_by_fault (Some ended.Fault) = true
+ended_by_fault (Some ended.Over) = false

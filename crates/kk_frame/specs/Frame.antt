@@ -25,25 +25,29 @@ unfoldable pub frame_text : TicketFields → FrameValue → List ℕ
 frame_text t (Vector generation row) = header t 0 ++ to_be_bytes w32 generation ++ to_be_bytes w64 row
 frame_text t End = header t 1 ++ replicate 12 0
 
--- the numbers that stand in 20 bytes
+-- the kind in the bytes of a frame
 abbrev pub kind_in : List ℕ → ℕ
 kind_in bytes = slice_index bytes 3
 
+-- the session in the bytes of a frame
 abbrev pub session_in : List ℕ → ℕ
 session_in bytes = from_be_bytes w32 (slice_range bytes 4 8)
 
+-- the generation in the bytes of a frame
 abbrev pub generation_in : List ℕ → ℕ
 generation_in bytes = from_be_bytes w32 (slice_range bytes 8 12)
 
+-- the row in the bytes of a frame, as a number
 abbrev pub row_in : List ℕ → ℕ
 row_in bytes = from_be_bytes w64 (slice_range bytes 12 20)
 
--- the rules for the bytes after the session
+-- the first rule that the bytes of a data frame break after the session
 abbrev pub data_fault : TicketFields → List ℕ → Option FrameFault
 data_fault t bytes =
     if nat_lt (generation_in bytes) (generations t) then (if nat_lt (row_in bytes) (2 ^ width t.code) then None else Some Row)
     else Some Generation
 
+-- the rule that the bytes of END break after the session: generation and row are 0
 abbrev pub end_fault : List ℕ → Option FrameFault
 end_fault bytes = if (generation_in bytes == 0) && (row_in bytes == 0) then None else Some EndRow
 

@@ -1,4 +1,4 @@
--- A frame of the program as a frame of the definitions.
+-- Frames of the program, seen as the definitions speak of them.
 use Rattle.std.specs.Prelude.{ℕ, Result, Ok, Err, List, map}
 use Rattle.kk_rows.specs.declared.rows.Row.{Row}
 use Rattle.kk_frame.specs.declared.fault.FrameFault.{FrameFault}
@@ -6,11 +6,12 @@ use Rattle.kk_frame.specs.declared.frame.Frame.{Frame}
 use Rattle.kk_frame.specs.declared.frame.Frame.TheVariants as variants
 use Rattle.kk_frame.specs.Frame.{FrameValue, Vector, End}
 
+-- a frame of the program as a frame of the definitions
 abbrev pub value : Frame → FrameValue
 value (variants.Vector generation row) = Vector generation row.0
 value variants.End = End
 
--- what was read, seen so
+-- what was read of a piece, with the frame as one of the definitions
 abbrev pub values : Result Frame FrameFault → Result FrameValue FrameFault
 values (Ok frame) = Ok (value frame)
 values (Err fault) = Err fault

@@ -4,6 +4,7 @@ pub mod Datagram
 pub mod Events
 pub mod Counting
 pub mod Intake
+pub mod Asking
 pub mod Generation
 pub mod Capture
 pub mod Laws

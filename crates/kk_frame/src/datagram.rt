@@ -3,12 +3,16 @@ ghost use Rattle.std.specs.Prelude.{◌≡◌, ◌<◌, ◌≤◌, ◌↔◌, Is
 ghost use Rattle.kk_frame.specs.Datagram.{has_datagram_length, pieces};
 
 use crate::frame::FRAME_BYTES;
+use kk_outside::MAX_DATAGRAM_BYTES;
 use std::error::Error;
 use std::fmt;
 use std::marker::Model;
 
 /// The most frames of a datagram.
 pub const MAX_DATAGRAM_FRAMES: usize = 32;
+
+// So many frames are the longest datagram that a sender makes.
+const _: () = prove!(MAX_DATAGRAM_FRAMES * FRAME_BYTES == MAX_DATAGRAM_BYTES);
 
 /// The length is 0, no multiple of the length of a frame, or that of more than [`MAX_DATAGRAM_FRAMES`] frames.
 #[derive(Clone, Copy, Debug, PartialEq, Eq)]

@@ -1,6 +1,7 @@
 //! What is told of a gate: why it has ended, and how many datagrams and frames it gave.
-ghost use Rattle.std.specs.Prelude.{◌≡◌, ◌+◌, ◌^◌, ◌≤◌, length};
+ghost use Rattle.std.specs.Prelude.{◌≡◌, ◌+◌, ◌^◌, ◌≤◌, Some, length};
 ghost use Rattle.kk_frame.specs.Counting.{one_more, sum_of, IsAtMost};
+ghost use Rattle.kk_frame.specs.Events.{ended_by_fault};
 
 use crate::FrameFault;
 
@@ -17,6 +18,15 @@ pub enum Ended {
     Fault,
     /// There are no more events.
     Over,
+}
+
+impl Ended {
+    /// Whether the gate failed.
+    pub fn is_fault(self) -> bool
+        ensures { result ≡ ended_by_fault (Some self) }
+    {
+        matches!(self, Ended::Fault)
+    }
 }
 
 /// How many datagrams have a wrong length, and how many pieces of the others are no frames of the ticket, by the rule
@@ -99,4 +109,14 @@ pub struct GateCount {
     pub frames: u64,
     /// What was refused.
     pub refused: Refused,
+}
+
+impl GateCount {
+    /// The counts of a gate that was not asked.
+    pub const NONE: GateCount = GateCount {
+        ended: None,
+        datagrams: 0,
+        frames: 0,
+        refused: Refused::NONE,
+    };
 }

@@ -9,7 +9,7 @@ ghost use Rattle.kk_frame.specs.Events.{taken, counts, overs_to};
 ghost use Rattle.kk_frame.specs.Intake.{IsIntake, IsAfter, is_running, calls_left};
 
 use crate::received::Received;
-use crate::{Batch, Ended, FRAME_BYTES, GateCount, Limits, Refused};
+use crate::{Batch, Ended, FRAME_BYTES, GateCount, Limits};
 use kk_code::Ticket;
 use std::marker::Model;
 
@@ -57,12 +57,7 @@ impl Intake {
     {
         Intake {
             limits,
-            counts: GateCount {
-                ended: None,
-                datagrams: 0,
-                frames: 0,
-                refused: Refused::NONE,
-            },
+            counts: GateCount::NONE,
             quiets: 0,
         }
     }

@@ -2,6 +2,7 @@
 //! datagrams that come, what it counts, and when the gate ends.
 #![tactic(auto)]
 
+mod asking;
 mod batch;
 mod datagram;
 mod fault;
@@ -22,7 +23,7 @@ pub use gate_count::{Ended, GateCount, Refused};
 pub use intake::Intake;
 pub use limits::Limits;
 pub use reading::read_frame;
-pub use writing::write_frame;
+pub use writing::{frame_bytes, send_frame, write_frame};
 
 #[cfg(test)]
 mod tests;

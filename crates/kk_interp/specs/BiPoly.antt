@@ -3,6 +3,7 @@ use Rattle.std.specs.Prelude.{◌≡◌, ℕ, ◌+◌, ◌-◌, List, Option, So
 use Rattle.kk_field.specs.Field.{Modulus}
 use Rattle.kk_linpoly.specs.LinPoly.{IsOver, value, trimmed, degree}
 
+-- the value of qx at x plus that of qy at y: that of the polynomial at the point (x, y)
 abbrev pub value_at : Modulus → List ℕ → List ℕ → ℕ → ℕ → ℕ
 value_at f qx qy x y = bit_xor (value f qx x) (value f qy y)
 

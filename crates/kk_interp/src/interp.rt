@@ -13,16 +13,14 @@
 //! The weights of both sum to k - 1 at first, and with each point to at most one more. So the lesser weighs at most half
 //! of k - 1 and the number of points.
 ghost use Rattle.std.specs.Prelude.{◌≡◌, ◌≢◌, ◌⊎◌, ◌↔◌, ◌+◌, ◌-◌, ◌*◌, ◌/◌, ◌^◌, ◌<◌, ◌≤◌, [], ◌∷◌, ◌++◌, IsTrue, length, slice_index};
+ghost use Rattle.kk_linpoly.specs.declared.lin_poly.TheConstants.{MAX_COEFFICIENTS};
 
 use crate::bi_poly::BiPoly;
 use kk_field::{Field, Steps};
-use kk_linpoly::LinPoly;
+use kk_linpoly::{LinPoly, MAX_COEFFICIENTS};
 use kk_tables::FieldTables;
 use std::marker::Model;
 use std::sync::ledger::Ledger;
-
-/// The points and k are together at most this many.
-const MAX_POINTS: usize = 128;
 
 /// The interpolation of a polynomial qx(x) + qy(y) of small weight through points that are given one by one.
 ///
@@ -31,7 +29,7 @@ const MAX_POINTS: usize = 128;
 pub struct Interp {
     field: Field,
     k: u32,
-    points: [(u64, u64); MAX_POINTS],
+    points: [(u64, u64); MAX_COEFFICIENTS],
     count: usize,
     x_leading: BiPoly,
     y_leading: BiPoly,
@@ -40,6 +38,7 @@ pub struct Interp {
 impl Model for Interp {
     ghost use Rattle.kk_interp.specs.Interpolation.{Interpolation};
     ghost use Rattle.kk_interp.specs.State.{seen, IsKept};
+    ghost use Rattle.kk_linpoly.specs.declared.lin_poly.TheConstants.{MAX_COEFFICIENTS};
     ghost use Rattle.std.specs.Prelude.{◌≡◌, take, length};
 
     ghost Value = { Interpolation };
@@ -53,7 +52,7 @@ impl Model for Interp {
       y_leading = a.y_leading;
     }) };
 
-    ghost invariant = { λ a. (length a.points ≡ 128) × IsKept (record {
+    ghost invariant = { λ a. (length a.points ≡ MAX_COEFFICIENTS) × IsKept (record {
       modulus = a.field;
       k = a.k;
       points = take a.count a.points;
@@ -86,7 +85,7 @@ impl Interp {
         Interp {
             field,
             k,
-            points: [(0, 0); MAX_POINTS],
+            points: [(0, 0); MAX_COEFFICIENTS],
             count: 0,
             x_leading: BiPoly {
                 qx: LinPoly::from_slice(&[one]),
@@ -99,12 +98,12 @@ impl Interp {
         }
     }
 
-    /// Gives the point (x, y) too, with the tables of the field. The points and k together are at most 128.
+    /// Gives the point (x, y) too, with the tables of the field. The points and k together are at most [`MAX_COEFFICIENTS`].
     pub fn point<L: Ledger>(&mut self, field: &FieldTables, x: u64, y: u64, steps: &mut Steps<L>)
         requires same_field { field.now ≡ self.old.modulus }
         requires x_below { x < 2 ^ self.old.modulus.degree }
         requires y_below { y < 2 ^ self.old.modulus.degree }
-        requires room { length self.old.points + 1 + self.old.k ≤ 128 }
+        requires room { length self.old.points + 1 + self.old.k ≤ MAX_COEFFICIENTS }
         ensures field { self.new.modulus ≡ self.old.modulus }
         ensures k { self.new.k ≡ self.old.k }
         ensures points { self.new.points ≡ self.old.points ++ (x, y) ∷ [] }

@@ -1,12 +1,12 @@
 -- Sums of carry-less products by digits of four bits, and their residues.
-use Rattle.std.proofs.Common.{◌≡◌, ℕ, zero, suc, ◌+◌, ◌-◌, ◌*◌, ◌/◌, ◌%◌, ◌^◌, ◌<◌, ◌≤◌, List, [], ◌++◌, length, drop, set, get_or, All, bit_xor, slice_index, map, replicate, add-one, refl, sym, ap, ◌∙◌, arith, inl, inr}
-use Rattle.std.proofs.Math.Nat.{add-zero, add-suc, zero-mul, mod-lt, div-one, div-eq_of_lt}
+use Rattle.std.proofs.Common.{◌≡◌, ℕ, suc, ◌+◌, ◌-◌, ◌*◌, ◌/◌, ◌%◌, ◌^◌, ◌<◌, ◌≤◌, List, [], ◌++◌, length, drop, set, get_or, All, bit_xor, slice_index, map, replicate, refl, sym, ap, ◌∙◌, arith, inl, inr}
+use Rattle.std.proofs.Math.Nat.{zero-mul, mod-lt, div-one, div-eq_of_lt}
 use Rattle.std.proofs.Math.Pow.{pow_pos, pow_mono, shr_lt}
 use Rattle.std.proofs.lemmas.Bool.{cases_lt, cases_eq}
 use Rattle.std.proofs.lemmas.List.{get_or-set_same, get_or-set_other, get_or_past, get_or-map, length-map, length-set, length-append, length-drop, length-replicate, get_or_append_left, get_or-append_right, get_or-drop}
 use Rattle.std.proofs.lemmas.List.Elements.{All-same, All-append, All-replicate}
 use Rattle.std.proofs.lemmas.List.FromFn.{get_or-map-range_with_len}
-use Rattle.std.specs.Int.Bits.{xor_zero_r, xor_assoc, xor_lt}
+use Rattle.std.specs.Int.Bits.{xor_lt}
 use Rattle.kk_field.proofs.Sums.{xor_shl}
 use Rattle.kk_field.proofs.Elimination.{slice_index-zeros}
 use Rattle.kk_field.proofs.Products.{product-zero, product_comm}
@@ -19,34 +19,10 @@ use Rattle.kk_linpoly.specs.LinPoly.{IsOver, xor_sum}
 use Rattle.kk_linpoly.specs.Matrix.{AreWindows, block_product, digit, digits_of, row_product}
 use Rattle.kk_linpoly.specs.declared.comb.TheConstants.{BLOCK}
 use Rattle.kk_linpoly.specs.declared.matrix.TheConstants.{MAX_COLUMNS}
-use Rattle.kk_linpoly.proofs.XorSums.{xor_sum-same, xor_sum-none, xor_sum-xor, xor_sum-add, xor_sum-mapped, xor_sum-lt}
-
--- ---- sums in blocks
-
-pub xor_sum-start : (p : ℕ → ℕ) → 0 ≡ xor_sum p 0
-unfolding xor_sum
-xor_sum-start p = refl
-
-pub xor_sum-more : (p : ℕ → ℕ) (n : ℕ) → bit_xor (xor_sum p n) (p n) ≡ xor_sum p (n + 1)
-unfolding xor_sum
-xor_sum-more p n = ap (xor_sum p) (sym (add-one n))
-
--- the terms from place n on apart
-pub xor_sum-split : (p : ℕ → ℕ) (n k : ℕ) → bit_xor (xor_sum p n) (xor_sum (λ i. p (n + i)) k) ≡ xor_sum p (n + k)
-unfolding xor_sum
-xor_sum-split p n zero = xor_zero_r (xor_sum p n) ∙ ap (xor_sum p) (sym (add-zero n))
-xor_sum-split p n (suc k) =
-    sym (xor_assoc (xor_sum p n) (xor_sum (λ i. p (n + i)) k) (p (n + k)))
-    ∙ ap (λ x. bit_xor x (p (n + k))) (xor_sum-split p n k) ∙ ap (xor_sum p) (sym (add-suc n k))
+use Rattle.kk_linpoly.proofs.Coefficients.{coefficient-lt}
+use Rattle.kk_linpoly.proofs.XorSums.{xor_sum-start, xor_sum-split, xor_sum-same, xor_sum-none, xor_sum-xor, xor_sum-add, xor_sum-mapped, xor_sum-lt}
 
 -- ---- windows
-
--- an element of the list, and 0 past its end
-pub slice_index-lt : (m : ℕ) (xs : List ℕ) → IsOver m xs → (i : ℕ) → slice_index xs i < 2 ^ m
-slice_index-lt m xs over i = elim (cases_lt i (length xs)) [
-  | inl within ↦ over i 0 within
-  | inr past ↦ rw (get_or_past xs i 0 past) (pow_pos m)
-]
 
 pub IsOver-mono : (m n : ℕ) (xs : List ℕ) → m ≤ n → IsOver m xs → IsOver n xs
 IsOver-mono m n xs most over k d within =
@@ -138,7 +114,7 @@ module _ (f : Modulus) (vector : List ℕ) (first : ℕ) (row : List ℕ) where
   carryless-fits n most vector_over row_over =
       xor_sum-lt (f.degree + n) (λ i. product (slice_index vector (first + i)) (slice_index row (first + i))) BLOCK
       (λ i _. product-fits (slice_index vector (first + i)) (slice_index row (first + i)) f.degree n most
-      (slice_index-lt f.degree vector vector_over (first + i)) (slice_index-lt f.degree row row_over (first + i)))
+      (coefficient-lt f.degree vector vector_over (first + i)) (coefficient-lt f.degree row row_over (first + i)))
 
   pub residue-carryless : f.low < 2 ^ f.degree → residue f carryless ≡ block_product f vector first row
   unfolding field_product

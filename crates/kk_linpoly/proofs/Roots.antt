@@ -10,11 +10,11 @@ use Rattle.kk_field.specs.Field.{Modulus, polynomial, field_product, frobenius}
 use Rattle.kk_field.proofs.Sums.{sums, xor_xor_swap, same_from_xor_zero}
 use Rattle.kk_field.proofs.Residues.{field_product-below, field_product-zero, zero-field_product, field_product_comm, field_product_assoc, field_product-xor, xor-field_product, square-xor_residues, frobenius-xor, frobenius-field_product}
 use Rattle.kk_field.proofs.Fields.{no_zero_divisors_of_residues}
-use Rattle.kk_rows.specs.Span.{in_span, innovative_behind, IsIndependent}
+use Rattle.kk_rows.specs.Span.{in_span, innovative_after, IsIndependent}
 use Rattle.kk_rows.proofs.Sums.{xor_twice_left}
 use Rattle.kk_rows.proofs.Spans.{same_bool, in_span_skip, in_span_use, in_span_cases, in_span-zero, in_span-lt}
 use Rattle.kk_rows.proofs.AdditiveMaps.{in_span-map, in_span-of_map}
-use Rattle.kk_rows.proofs.Dimensions.{innovative_behind-nil, innovative_behind_inside, innovative_behind_outside, length_behind_le}
+use Rattle.kk_rows.proofs.Dimensions.{innovative_after-nil, innovative_after_inside, innovative_after_outside, length_after_le}
 use Rattle.kk_linpoly.specs.LinPoly.{SamePolynomial, IsOver, value_from, value, degree, sum_of, composition}
 use Rattle.kk_linpoly.proofs.Coefficients.{coefficient-lt, IsOver-from, IsOver-composition, IsOver-sum_of, slice_index-sum_of}
 use Rattle.kk_linpoly.proofs.Compositions.{frobenius-suc}
@@ -159,25 +159,25 @@ module _ (f : Modulus) (h : f.low < 2 ^ f.degree) (irreducible : IsIrreducible (
 
   -- so as many rows are innovative after p as images are
   innovative_images : (p : ℕ) (before rows : List ℕ) → p < 2 ^ f.degree → All (λ x. x < 2 ^ f.degree) before → All (λ x. x < 2 ^ f.degree) rows
-      → length (innovative_behind (p ∷ before) rows) ≡ length (innovative_behind (map (image f p) before) (map (image f p) rows))
+      → length (innovative_after (p ∷ before) rows) ≡ length (innovative_after (map (image f p) before) (map (image f p) rows))
   innovative_images p before [] p_below before_below rows_below =
-      ap length (innovative_behind-nil (p ∷ before)) ∙ sym (ap length (innovative_behind-nil (map (image f p) before)))
+      ap length (innovative_after-nil (p ∷ before)) ∙ sym (ap length (innovative_after-nil (map (image f p) before)))
   innovative_images p before (r ∷ rows) p_below before_below rows_below =
       let P : ℕ → Type 0 = λ x. x < 2 ^ f.degree in
       let images = map (image f p) before in
       let more = map (image f p) rows in
       let r_below = All-head P r rows rows_below in
       let same = in_span-images p before r p_below before_below r_below in
-      let rest : length (innovative_behind (p ∷ before ++ r ∷ []) rows) ≡ length (innovative_behind (images ++ image f p r ∷ []) more) =
+      let rest : length (innovative_after (p ∷ before ++ r ∷ []) rows) ≡ length (innovative_after (images ++ image f p r ∷ []) more) =
       innovative_images p (before ++ r ∷ []) rows p_below (All-push P before r before_below r_below) (All-tail P r rows rows_below)
-      ∙ ap (λ l. length (innovative_behind l more)) (map_push (image f p) before r) in
+      ∙ ap (λ l. length (innovative_after l more)) (map_push (image f p) before r) in
       elim (cases_Bool (in_span (p ∷ before) r)) [
         | inl inside ↦
-            ap length (innovative_behind_inside (p ∷ before) r rows inside) ∙ rest
-            ∙ sym (ap length (innovative_behind_inside images (image f p r) more (sym same ∙ inside)))
+            ap length (innovative_after_inside (p ∷ before) r rows inside) ∙ rest
+            ∙ sym (ap length (innovative_after_inside images (image f p r) more (sym same ∙ inside)))
         | inr outside ↦
-            ap length (innovative_behind_outside (p ∷ before) r rows outside) ∙ ap suc rest
-            ∙ sym (ap length (innovative_behind_outside images (image f p r) more (sym same ∙ outside)))
+            ap length (innovative_after_outside (p ∷ before) r rows outside) ∙ ap suc rest
+            ∙ sym (ap length (innovative_after_outside images (image f p r) more (sym same ∙ outside)))
       ]
 
   -- the images of the others are independent where p and they are
@@ -186,12 +186,12 @@ module _ (f : Modulus) (h : f.low < 2 ^ f.degree) (irreducible : IsIrreducible (
   independent_images p rows p_below rows_below independent =
       elim (cases_Bool (in_span [] p)) [
         | inl inside ↦
-            let fewer = length_behind_le (p ∷ []) rows in
-            let e = ap length (innovative_behind_inside [] p rows inside) in
+            let fewer = length_after_le (p ∷ []) rows in
+            let e = ap length (innovative_after_inside [] p rows inside) in
             absurd (omega arith)
         | inr outside ↦
-            let e = ap length (innovative_behind_outside [] p rows outside) in
-            let all : length (innovative_behind (p ∷ []) rows) ≡ length rows = omega arith in (
+            let e = ap length (innovative_after_outside [] p rows outside) in
+            let all : length (innovative_after (p ∷ []) rows) ≡ length rows = omega arith in (
               elim (cases_lt 0 p) [
                 | inl positive ↦ positive
                 | inr less ↦

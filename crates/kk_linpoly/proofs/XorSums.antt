@@ -1,5 +1,5 @@
 -- Sums of a term over the places below n.
-use Rattle.std.proofs.Common.{◌≡◌, ◌≢◌, ℕ, zero, suc, ◌+◌, ◌^◌, ◌<◌, ◌≤◌, bit_xor, refl, sym, ap, ◌∙◌, arith, inl, inr}
+use Rattle.std.proofs.Common.{◌≡◌, ◌≢◌, ℕ, zero, suc, add-one, ◌+◌, ◌^◌, ◌<◌, ◌≤◌, bit_xor, refl, sym, ap, ◌∙◌, arith, inl, inr}
 use Rattle.std.proofs.Math.Nat.{add-zero, add-suc}
 use Rattle.std.proofs.Math.Pow.{pow_pos}
 use Rattle.std.proofs.lemmas.Bool.{cases_eq}
@@ -43,6 +43,30 @@ xor_sum-add p n zero none = ap (xor_sum p) (add-zero n)
 xor_sum-add p n (suc k) none =
     ap (xor_sum p) (add-suc n k) ∙ ap (bit_xor (xor_sum p (n + k))) (none (n + k) (omega arith))
     ∙ xor_zero_r (xor_sum p (n + k)) ∙ xor_sum-add p n k none
+
+pub xor_sum-start : (p : ℕ → ℕ) → 0 ≡ xor_sum p 0
+unfolding xor_sum
+xor_sum-start p = refl
+
+-- one term more
+pub xor_sum-more : (p : ℕ → ℕ) (n : ℕ) → bit_xor (xor_sum p n) (p n) ≡ xor_sum p (n + 1)
+unfolding xor_sum
+xor_sum-more p n = ap (xor_sum p) (sym (add-one n))
+
+-- the terms from place n on apart
+pub xor_sum-split : (p : ℕ → ℕ) (n k : ℕ) → bit_xor (xor_sum p n) (xor_sum (λ i. p (n + i)) k) ≡ xor_sum p (n + k)
+unfolding xor_sum
+xor_sum-split p n zero = xor_zero_r (xor_sum p n) ∙ ap (xor_sum p) (sym (add-zero n))
+xor_sum-split p n (suc k) =
+    sym (xor_assoc (xor_sum p n) (xor_sum (λ i. p (n + i)) k) (p (n + k)))
+    ∙ ap (λ x. bit_xor x (p (n + k))) (xor_sum-split p n k) ∙ ap (xor_sum p) (sym (add-suc n k))
+
+-- rows first or columns first
+pub xor_sum-swap : (p : ℕ → ℕ → ℕ) (n k : ℕ) → xor_sum (λ j. xor_sum (p j) n) k ≡ xor_sum (λ c. xor_sum (λ j. p j c) k) n
+unfolding xor_sum
+xor_sum-swap p n zero = sym (xor_sum-none (λ c. 0) n (λ c less. refl))
+xor_sum-swap p n (suc k) =
+    ap (λ x. bit_xor x (xor_sum (p k) n)) (xor_sum-swap p n k) ∙ sym (xor_sum-xor (λ c. xor_sum (λ j. p j c) k) (p k) n)
 
 -- an additive map goes inside
 pub xor_sum-mapped : (L : ℕ → ℕ) → L 0 ≡ 0 → ((a b : ℕ) → L (bit_xor a b) ≡ bit_xor (L a) (L b))

@@ -30,6 +30,7 @@ pub record ValueIsLinear (f : Modulus) : Type 0 where
   pub point : (cs : List ℕ) (x y : ℕ) → value f cs (bit_xor x y) ≡ bit_xor (value f cs x) (value f cs y)
   pub without_zeros : (cs : List ℕ) (x : ℕ) → value f (trimmed cs) x ≡ value f cs x
 
+-- values are linear modulo every polynomial X^m + low
 abbrev pub ValuesAreLinear : Type 0
 ValuesAreLinear = (f : Modulus) → IsModulus f → ValueIsLinear f
 
@@ -50,6 +51,7 @@ pub record IsCompositionRing (f : Modulus) : Type 0 where
   pub one_on_the_right : (cs : List ℕ) → IsOver f.degree cs → SamePolynomial (composition f cs (1 ∷ [])) cs
   pub square : (cs : List ℕ) → SamePolynomial (composition f (0 ∷ 1 ∷ []) cs) (squared_up f cs)
 
+-- so they are modulo every polynomial X^m + low
 abbrev pub CompositionIsARing : Type 0
 CompositionIsARing = (f : Modulus) → IsModulus f → IsCompositionRing f
 

@@ -1,5 +1,5 @@
 //! The map of a linearised polynomial, by tables.
-ghost use Rattle.std.specs.Prelude.{◌≡◌, ℕ, ◌+◌, ◌*◌, ◌^◌, ◌%◌, ◌<◌, ◌≤◌, length, slice_index};
+ghost use Rattle.std.specs.Prelude.{◌≡◌, ℕ, ◌+◌, ◌*◌, ◌^◌, ◌%◌, ◌<◌, ◌≤◌, length};
 ghost use Rattle.kk_field.specs.Laws.{IsModulus};
 ghost use Rattle.kk_tables.specs.Tables.{HasUnits};
 ghost use Rattle.kk_linpoly.specs.LinPoly.{IsOver, value};

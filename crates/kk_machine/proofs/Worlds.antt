@@ -3,7 +3,7 @@ use Rattle.std.proofs.Common.{◌≡◌, ◌≢◌, ℕ, zero, suc, ◌+◌, ◌
 use Rattle.std.proofs.lemmas.List.{take_more, length-replicate, get_or-replicate}
 use mathlib.Core.Logic.{dite}
 use native.Mathlib.Decide.{ℕ_discrete}
-use Rattle.kk_rows.specs.Span.{IsIndependent, innovative_behind}
+use Rattle.kk_rows.specs.Span.{IsIndependent, innovative_after}
 use Rattle.kk_rows.proofs.Independence.{independent-front}
 use Rattle.kk_rows.proofs.Dimensions.{dimension-le_width}
 use Rattle.kk_machine.specs.declared.log.Log.{Log}
@@ -194,7 +194,7 @@ one_zero zero = refl
 one_zero (suc q) = refl
 
 pub nothing_is_independent : IsIndependent []
-unfolding innovative_behind
+unfolding innovative_after
 nothing_is_independent = refl
 
 tried_stands : (h : List Entry) (w : World) (a : ℕ) (changing : Bool) (call : Call) → IsShaped w → IsOf h w → MayTry w a changing call → StandsFrom w (tried w a changing call)

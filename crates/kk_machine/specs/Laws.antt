@@ -25,6 +25,7 @@ pub record AreCounted (g : ℕ) (h : List Entry) : Type 0 where
   pub rank_once : (n : ℕ) → tally (in_generation g (with_rank n)) h ≤ 1
   pub frozen_once : tally (in_generation g froze) h ≡ one_if (log_of g h).closed
 
+-- in every legal history the replies of each generation are counted so
 abbrev pub RepliesAreCounted : Type 0
 RepliesAreCounted = (g : ℕ) (h : List Entry) → Legal h → AreCounted g h
 

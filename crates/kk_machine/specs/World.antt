@@ -35,6 +35,7 @@ newcomer generations = record { live = true; seen = replicate generations unseen
 abbrev pub new_world : ℕ → ℕ → World
 new_world generations width = record { width = width; words = replicate generations (replicate (width + 1) 0); actors = newcomer generations ∷ [] }
 
+-- actor number a of a world
 abbrev pub actor : World → ℕ → Actor
 actor w a = slice_index_or w.actors a nobody
 
@@ -42,9 +43,11 @@ actor w a = slice_index_or w.actors a nobody
 abbrev pub sight : World → ℕ → ℕ → Log
 sight w a g = slice_index_or (actor w a).seen g unseen
 
+-- the words of generation g, by their places
 abbrev pub words_of : World → ℕ → List ℕ
 words_of w g = slice_index_or w.words g []
 
+-- the word of generation g at a place
 abbrev pub word : World → ℕ → ℕ → ℕ
 word w g place = slice_index_or (words_of w g) place 0
 
@@ -52,6 +55,7 @@ word w g place = slice_index_or (words_of w g) place 0
 abbrev pub next_word : World → ℕ → Call → ℕ
 next_word w a call = word w (generation_of call) (length (sight w a (generation_of call)).rows)
 
+-- the world with other actors
 abbrev pub with_actors : World → List Actor → World
 with_actors w actors = record { width = w.width; words = w.words; actors = actors }
 

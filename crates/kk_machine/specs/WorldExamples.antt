@@ -11,9 +11,11 @@ use Rattle.kk_machine.specs.Spaces.{log}
 use Rattle.kk_machine.specs.History.{entry, log_of, Legal, LegalAfter}
 use Rattle.kk_machine.specs.World.{new_world, run, history, tried, sight}
 
+-- an insert of the row 13 into generation 0
 abbrev pub thirteen : Call
 thirteen = Insert 0 record { 0 = 13 }
 
+-- an insert of the row 17 into generation 0
 abbrev pub seventeen : Call
 seventeen = Insert 0 record { 0 = 17 }
 

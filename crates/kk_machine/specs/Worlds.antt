@@ -6,12 +6,15 @@ use Rattle.kk_machine.specs.declared.call.Entry.{Entry}
 use Rattle.kk_machine.specs.declared.world.Actor.{Actor as KeptActor}
 use Rattle.kk_machine.specs.World.{Actor, IsShaped, IsOf}
 
+-- the words that are kept in vectors, one for each generation, as lists
 abbrev pub words_in : List (Vec ℕ Global) → List (List ℕ)
 words_in words = map (λ v. v.items) words
 
+-- an actor as it is kept, as clauses see it
 abbrev pub actor_in : KeptActor → Actor
 actor_in a = record { live = a.live; seen = a.seen.logs }
 
+-- actors as they are kept, as clauses see them
 abbrev pub actors_in : List KeptActor → List Actor
 actors_in actors = map actor_in actors
 

@@ -1,5 +1,6 @@
 //! The sockets that the words name.
 ghost use Rattle.std.specs.Prelude.{◌≡◌, ◌≤◌, IfOk, length};
+ghost use Rattle.kk_workers.specs.declared.running.TheConstants.{MAX_GATES};
 
 use kk_outside::{OpenFault, UdpGate, UdpOutlet};
 use kk_top::{MAX_GATES, WordsFault, places};
@@ -71,7 +72,7 @@ fn outlet_to(rt: &HostRuntime, alloc: Global, target: Option<&str>) -> Result<Ud
     let Some(target) = target else {
         return Ok(UdpOutlet::none());
     };
-    match UdpOutlet::open(rt, alloc, target) {
+    match UdpOutlet::open(rt, target) {
         Ok(outlet) => Ok(outlet),
         Err(fault) => Err(no_socket(alloc, target, fault)),
     }
@@ -93,7 +94,7 @@ fn gates_at(rt: &HostRuntime, alloc: Global, addresses: &[String]) -> Result<Vec
 
 /// A gate at this address.
 fn gate_at(rt: &HostRuntime, alloc: Global, address: &str) -> Result<UdpGate, Unopened> {
-    match UdpGate::open(rt, alloc, address) {
+    match UdpGate::open(rt, address) {
         Ok(gate) => Ok(gate),
         Err(fault) => Err(no_socket(alloc, address, fault)),
     }

@@ -12,6 +12,7 @@ LeftQuotientIsUnique =
     → IsOver f.degree q → IsOver f.degree q' → IsLeftQuotient f a b q r → IsLeftQuotient f a b q' r'
     → SamePolynomial q q' × SamePolynomial r r'
 
+-- two polynomials of the field are the right quotient and remainder only if they are the same as any other such two
 abbrev pub RightQuotientIsUnique : Type 0
 RightQuotientIsUnique =
     (f : Modulus) → IsFieldModulus f → (a b q r q' r' : List ℕ) → IsOver f.degree b → IsSome (degree b)

@@ -1,5 +1,5 @@
 //! Left division from the lowest coefficient up.
-ghost use Rattle.std.specs.Prelude.{◌≡◌, ◌≢◌, ℕ, List, ◌+◌, ◌*◌, ◌^◌, ◌<◌, ◌≤◌, length, slice_index};
+ghost use Rattle.std.specs.Prelude.{◌≡◌, ◌≢◌, ℕ, List, ◌+◌, ◌*◌, ◌<◌, ◌≤◌, length, slice_index};
 ghost use Rattle.kk_linpoly.specs.LinPoly.{IsOver, SamePolynomial, trimmed, composition};
 
 use crate::left::add_term;

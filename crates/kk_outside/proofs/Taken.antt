@@ -1,9 +1,10 @@
 -- What a gate tells, and what an outlet tells, over one call after another.
-use Rattle.std.proofs.Common.{◌≡◌, ℕ, List, [], ◌∷◌, ◌++◌, length, drop, map, Option, Some, None, Result, refl, ap, sym, ◌∙◌, append_assoc}
+use Rattle.std.proofs.Common.{◌≡◌, ◌≤◌, ℕ, List, [], ◌∷◌, ◌++◌, length, drop, map, Option, Some, None, Result, Ok, Err, refl, ap, sym, ◌∙◌, append_assoc, arith}
 use Rattle.std.proofs.lemmas.List.{append-nil, drop_at, map-append}
 use Rattle.kk_outside.specs.Change.{Change, change}
 use Rattle.kk_outside.specs.declared.event.Event.{Event}
 use Rattle.kk_outside.specs.declared.got.Got.{Got}
+use Rattle.kk_outside.specs.declared.got.Got.TheVariants as got
 use Rattle.kk_outside.specs.Gate.{GateTold, prepend_events, events_of, events_told, TellsFrom, TookEvents}
 use Rattle.kk_outside.specs.Outlet.{Send, Sent, Failed, append_datagrams, append_failing, datagrams_sent}
 
@@ -36,6 +37,17 @@ TookEvents-next gate result buf tells = record { logged = tells.logged; left = t
 pub events_told-took : (events : List Event) (gate : Change GateTold) → TookEvents events gate → events_told gate ≡ events
 events_told-took events gate took =
     ap (λ (l : List Event). drop (length gate.old.events) l) took.logged ∙ drop_at gate.old.events events (length gate.old.events) refl
+
+few_events : {E : Type 0} (result : Result Got E) (buf : List ℕ) → length (events_of result buf) ≤ 1
+few_events (Ok (got.Datagram n)) buf = omega arith
+few_events (Ok got.Quiet) buf = omega arith
+few_events (Ok got.Over) buf = omega arith
+few_events (Err e) buf = omega arith
+
+-- one call tells one event at most
+pub events_told-next : {E : Type 0} (gate : Change GateTold) (result : Result Got E) (buf : List ℕ) → TellsFrom gate result buf → length (events_told gate) ≤ 1
+events_told-next gate result buf tells =
+    omega (arith, ap length (events_told-took (events_of result buf) gate (TookEvents-next gate result buf tells)), few_events result buf)
 
 -- datagrams that were sent, and then others
 pub append_datagrams-append : (o : List Send) (a b : List (List ℕ)) → append_datagrams (append_datagrams o a) b ≡ append_datagrams o (a ++ b)

@@ -18,3 +18,8 @@ pub record HasCause {T E : Type 0} (old new : ℕ) (result : Result T E) : Type 
   pub later : old ≤ new
   pub failed : OnErr result (Rose old new)
   pub kept : OnOk result (new ≡ old)
+
+-- The count of faults rose, or stands at its last value, where this holds, and else it stayed.
+pub record RoseWhere (failed : Type 0) (old new : ℕ) : Type 0 where
+  pub rose : failed → Rose old new
+  pub kept : (failed → ⊥) → new ≡ old

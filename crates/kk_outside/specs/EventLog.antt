@@ -1,6 +1,5 @@
 -- The answers that a log keeps.
-use Rattle.std.specs.Prelude.{ℕ, ◌+◌, List, [], ◌∷◌, ◌++◌, length}
-use Rattle.kk_outside.specs.declared.event.Event.{Event}
+use Rattle.std.specs.Prelude.{◌+◌, [], ◌∷◌, ◌++◌}
 use Rattle.kk_outside.specs.declared.event.Event.TheVariants as event
 use Rattle.kk_outside.specs.declared.event_log.LastEvent.{LastEvent}
 use Rattle.kk_outside.specs.declared.event_log.LastEvent.TheVariants.{NoEvent, Datagram, Quiet, Fault, Over}

@@ -35,6 +35,7 @@ events_of_got (got.Datagram n) buf = Datagram (take n buf) ∷ []
 events_of_got got.Quiet buf = Quiet ∷ []
 events_of_got got.Over buf = []
 
+-- the event that an answer of a gate tells, by this buffer: a fault where the call failed, and none where the events are over
 abbrev pub events_of : {E : Type 0} → Result Got E → List ℕ → List Event
 events_of (Ok answer) buf = events_of_got answer buf
 events_of (Err e) buf = Fault ∷ []

@@ -1,5 +1,5 @@
 -- What an outlet tells, and what a send does to that.
-use Rattle.std.specs.Prelude.{◌≡◌, ℕ, ◌<◌, List, [], ◌∷◌, ◌++◌, map, Result, Ok, Err, OnOk, OnErr}
+use Rattle.std.specs.Prelude.{◌≡◌, ℕ, ◌<◌, List, [], ◌∷◌, ◌++◌, map, length, take, Result, Ok, Err, OnOk, OnErr}
 use Rattle.kk_outside.specs.Change.{Change}
 
 -- what one send came to: the datagram was sent, or the outlet failed
@@ -39,3 +39,9 @@ send_of (Err e) datagram = Failed
 pub record SendsTo {T E : Type 0} (outlet : Change OutletTold) (result : Result T E) (datagram : List ℕ) : Type 0 where
   pub sent : OnOk result (outlet.new.sends ≡ append_datagrams outlet.old.sends (datagram ∷ []))
   pub failed : OnErr result (outlet.new.sends ≡ outlet.old.sends ++ Failed ∷ [])
+
+-- Fewer of these datagrams were sent than there are, from the front; then a send failed, and it was the last.
+pub record IsCutShort (outlet : Change OutletTold) (datagrams : List (List ℕ)) : Type 0 where
+  pub number : ℕ
+  pub few : number < length datagrams
+  pub sent : outlet.new.sends ≡ append_failing outlet.old.sends (take number datagrams)

@@ -17,10 +17,11 @@ pub record UdpOutletState : Type 0 where
   pub sends : List Send
   pub faults : ℕ
 
--- what they tell as a gate and an outlet
+-- what a gate over a socket tells
 abbrev pub gate_told : UdpGateState → GateTold
 gate_told s = record { left = None; events = s.events; overs = 0; faults = s.faults }
 
+-- what an outlet over a socket tells
 abbrev pub outlet_told : UdpOutletState → OutletTold
 outlet_told s = record { sends = s.sends; faults = s.faults }
 

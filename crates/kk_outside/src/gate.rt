@@ -11,7 +11,7 @@ pub const MAX_DATAGRAM_BYTES: usize = 640;
 
 /// The bytes of a gate's buffer: one more, so that a datagram which is too long shows. A longer one is told as its first
 /// `GATE_BYTES` bytes.
-pub const GATE_BYTES: usize = 641;
+pub const GATE_BYTES: usize = MAX_DATAGRAM_BYTES + 1;
 
 /// Where datagrams come in. It can be moved into a worker, and dropped with it.
 pub trait Gate: Drop {

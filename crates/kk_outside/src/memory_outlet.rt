@@ -6,7 +6,7 @@ ghost use Rattle.kk_outside.specs.Outlet.{SendsTo, datagrams_sent};
 ghost use Rattle.kk_outside.specs.Packed.{start_of};
 ghost use Rattle.kk_outside.specs.OutletState.{told, unsent, IsRefused, after_send, after_failed_send};
 
-use crate::plan::Plan;
+use crate::fault_plan::FaultPlan;
 use crate::send_log::SendLog;
 use crate::{Alloc, Failed, Outlet};
 use std::alloc::Global;
@@ -22,7 +22,7 @@ pub struct MemoryOutlet {
     /// Where each datagram ends.
     ends: Vec<usize>,
     room: usize,
-    plan: Plan,
+    plan: FaultPlan,
     log: SendLog,
 }
 
@@ -59,7 +59,7 @@ impl MemoryOutlet {
             bytes: Vec::with_capacity(alloc, room)?,
             ends: Vec::with_capacity(alloc, room)?,
             room,
-            plan: Plan::new(fails),
+            plan: FaultPlan::new(fails),
             log: SendLog::new(),
         })
     }

@@ -5,7 +5,7 @@ ghost use Rattle.kk_outside.specs.Change.{change};
 ghost use Rattle.kk_outside.specs.Sink.{WritesTo, bytes_written};
 ghost use Rattle.kk_outside.specs.SinkState.{told, unwritten, IsRefused, taken_count, after_write, after_failed_write};
 
-use crate::plan::Plan;
+use crate::fault_plan::FaultPlan;
 use crate::write_log::WriteLog;
 use crate::{Alloc, Failed, Sink};
 use std::alloc::Global;
@@ -19,7 +19,7 @@ pub struct MemorySink {
     bytes: Vec<u8>,
     room: usize,
     piece: usize,
-    plan: Plan,
+    plan: FaultPlan,
     log: WriteLog,
 }
 
@@ -61,7 +61,7 @@ impl MemorySink {
             bytes: Vec::with_capacity(alloc, room)?,
             room,
             piece,
-            plan: Plan::new(fails),
+            plan: FaultPlan::new(fails),
             log: WriteLog::new(),
         })
     }

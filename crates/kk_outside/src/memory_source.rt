@@ -5,7 +5,7 @@ ghost use Rattle.kk_outside.specs.Change.{change};
 ghost use Rattle.kk_outside.specs.Source.{ReadsFrom, read_of};
 ghost use Rattle.kk_outside.specs.SourceState.{told, unread, given_count, after_read, after_failed_read};
 
-use crate::plan::Plan;
+use crate::fault_plan::FaultPlan;
 use crate::read_log::ReadLog;
 use crate::{Failed, Source};
 use std::marker::Model;
@@ -17,7 +17,7 @@ pub struct MemorySource {
     bytes: Vec<u8>,
     start: usize,
     piece: usize,
-    plan: Plan,
+    plan: FaultPlan,
     log: ReadLog,
 }
 
@@ -49,7 +49,7 @@ impl MemorySource {
             bytes,
             start: 0,
             piece,
-            plan: Plan::new(fails),
+            plan: FaultPlan::new(fails),
             log: ReadLog::new(),
         }
     }

@@ -111,6 +111,7 @@ mod tests {
         let mut sink = StdSink::new(&mut out);
         assert_eq!(rt; write_all(&mut sink, &[1, 2, 3]), Ok(()));
         assert_eq!(rt; sink.faults(), 0);
+        drop(sink);
         assert_eq!(rt; out.as_slice(), [1, 2, 3].as_slice());
         Ok(())
     }

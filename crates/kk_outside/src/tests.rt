@@ -49,7 +49,7 @@ fn gates_and_outlets_go_into_threads(rt: HostRuntime) -> Result<(), Fail> {
     let (got, sent) = thread::join(&rt, || gate.next(&mut buf), || outlet.send(&[1]));
     assert_eq!(rt; got, Ok(Got::Over));
     assert_eq!(rt; sent, Ok(()));
-    let mut gate = UdpGate::open(&rt, alloc, "127.0.0.1:0")?;
+    let mut gate = UdpGate::open(&rt, "127.0.0.1:0")?;
     let mut outlet = UdpOutlet::none();
     let (got, sent) = thread::join(&rt, || gate.next(&mut buf), || outlet.send(&[1]));
     assert_eq!(rt; got, Ok(Got::Quiet));

@@ -11,7 +11,6 @@ ghost use Rattle.kk_outside.specs.UdpState.{gate_told, is_wait_end};
 use crate::event_log::EventLog;
 use crate::open_fault::open_fault;
 use crate::{Failed, GATE_BYTES, Gate, Got, OpenFault};
-use std::alloc::Global;
 use std::io;
 use std::io::ErrorKind;
 use std::marker::Model;
@@ -43,7 +42,7 @@ impl Model for UdpGate {
 
 impl UdpGate {
     /// A gate at this address, as `127.0.0.1:9000`. It takes no memory but the system's.
-    pub fn open<R: Net>(rt: &R, _alloc: Global, address: &str) -> Result<UdpGate, OpenFault>
+    pub fn open<R: Net>(rt: &R, address: &str) -> Result<UdpGate, OpenFault>
         ensures { IfOk result (λ g. g ≡ record { events = []; faults = 0 }) }
     {
         match bind(rt, address) {
@@ -139,8 +138,7 @@ mod tests {
 
     #[test]
     fn tells_what_comes_over_loopback(rt: HostRuntime) -> Result<(), Fail> {
-        let alloc = rt.alloc();
-        let mut gate = UdpGate::open(&rt, alloc, "127.0.0.1:0")?;
+        let mut gate = UdpGate::open(&rt, "127.0.0.1:0")?;
         let address = gate.socket.local_addr()?;
         let sender = UdpSocket::bind(&rt, "127.0.0.1:0")?;
         let mut buf = [0; GATE_BYTES];
@@ -151,7 +149,7 @@ mod tests {
         assert_eq!(rt; gate.next(&mut buf), Ok(Got::Datagram(GATE_BYTES)));
         assert_eq!(rt; gate.next(&mut buf), Ok(Got::Quiet));
         assert_eq!(rt; gate.faults(), 0);
-        let refused = UdpGate::open(&rt, alloc, "127.0.0.1");
+        let refused = UdpGate::open(&rt, "127.0.0.1");
         assert_eq!(rt; refused.err(), Some(OpenFault::Cannot));
         Ok(())
     }

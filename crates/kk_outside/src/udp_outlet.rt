@@ -10,7 +10,6 @@ use crate::open_fault::open_fault;
 use crate::pace::Pace;
 use crate::send_log::SendLog;
 use crate::{Failed, OpenFault, Outlet};
-use std::alloc::Global;
 use std::io;
 use std::io::ErrorKind;
 use std::marker::Model;
@@ -51,7 +50,7 @@ impl Model for UdpOutlet {
 
 impl UdpOutlet {
     /// An outlet to this address, as `127.0.0.1:9000`. It takes no memory but the system's.
-    pub fn open(rt: &HostRuntime, _alloc: Global, target: &str) -> Result<UdpOutlet, OpenFault>
+    pub fn open(rt: &HostRuntime, target: &str) -> Result<UdpOutlet, OpenFault>
         ensures { IfOk result (λ o. o ≡ record { has_socket = true; sends = []; faults = 0 }) }
     {
         match Link::open(rt, target) {
@@ -175,7 +174,7 @@ mod tests {
         let receiver = UdpSocket::bind(&rt, "127.0.0.1:0")?;
         receiver.set_read_timeout(Some(Duration::from_secs(10)))?;
         let address = receiver.local_addr()?.to_string(alloc)?;
-        let mut outlet = UdpOutlet::open(&rt, alloc, &address)?;
+        let mut outlet = UdpOutlet::open(&rt, &address)?;
         assert_eq!(rt; outlet.send(&[1, 2, 3]), Ok(()));
         assert_eq!(rt; outlet.send(&[4]), Ok(()));
         let mut buf = [0; 8];
@@ -186,7 +185,7 @@ mod tests {
         // no datagram of UDP is so long
         assert_eq!(rt; outlet.send(&[0; 70_000]), Err(Failed));
         assert_eq!(rt; outlet.faults(), 1);
-        let refused = UdpOutlet::open(&rt, alloc, "127.0.0.1");
+        let refused = UdpOutlet::open(&rt, "127.0.0.1");
         assert_eq!(rt; refused.err(), Some(OpenFault::Cannot));
         Ok(())
     }

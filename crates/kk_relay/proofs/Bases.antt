@@ -4,7 +4,7 @@ use Rattle.std.proofs.lemmas.Bool.{eqb-true}
 use Rattle.std.proofs.lemmas.Bool.Decides.{nat_tests}
 use Rattle.std.proofs.lemmas.List.{take_more_set, length-map, length-take-le, map-append}
 use Rattle.std.proofs.lemmas.List.Elements.{All-nil, All-push}
-use Rattle.kk_rows.specs.Span.{in_span, innovative_behind}
+use Rattle.kk_rows.specs.Span.{in_span, innovative_after}
 use Rattle.kk_rows.specs.declared.rows.Row.{Row}
 use Rattle.kk_rows.specs.declared.row_space.TheConstants.{MAX_WIDTH}
 use Rattle.kk_rows.specs.Rows.{numbers}
@@ -37,7 +37,7 @@ pub with_row-outside : (basis : BasisState) (row : ℕ) → in_span basis.rows r
 with_row-outside basis row outside = rw outside refl
 
 pub IsBasis-none : (width : ℕ) → width ≤ MAX_WIDTH → IsBasis (no_rows width)
-unfolding innovative_behind
+unfolding innovative_after
 IsBasis-none width fits = record { fits = fits; below = All-nil (λ (row : ℕ). row < 2 ^ width); independent = refl }
 
 pub IsBasis-push : (width : ℕ) (rows : List ℕ) (row : ℕ) → IsBasis (record { width = width; rows = rows }) → row < 2 ^ width → in_span rows row ≡ false → IsBasis (record { width = width; rows = rows ++ row ∷ [] })

@@ -2,5 +2,4 @@ pub mod Bases
 pub mod Relays
 pub mod Sends
 pub mod Steps
-pub mod Events
 pub mod Outcomes

@@ -1,6 +1,6 @@
 -- What a whole run of a relay comes to.
 use Rattle.std.proofs.Common.{◌≡◌, ℕ, ◌+◌, ◌*◌, ◌≤◌, true, false, List, [], ◌∷◌, ◌++◌, length, take, Option, Some, None, inl, inr, refl, ap, sym, subst, ◌∙◌, arith, append_assoc, length-append, Bool}
-use Rattle.std.specs.Prelude.{IfSome, is_none, is_some, flat_map, unwrap_or}
+use Rattle.std.specs.Prelude.{IfSome, MatchOption, is_some, flat_map, unwrap_or}
 use Rattle.std.proofs.Math.Nat.{mul-le-mul_right}
 use Rattle.std.proofs.lemmas.Bool.{false≢true}
 use Rattle.std.proofs.lemmas.Grind.{flat_map-append}
@@ -9,9 +9,9 @@ use Rattle.std.proofs.lemmas.Option.{same_Some}
 use Rattle.rand_core.specs.Stream.{Stream}
 use Rattle.kk_outside.specs.Change.{Change, change}
 use Rattle.kk_outside.specs.declared.event.Event.{Event}
-use Rattle.kk_outside.specs.Gate.{GateTold, TookEvents, prepend_events, events_told}
-use Rattle.kk_outside.specs.Outlet.{OutletTold, Send, Failed, append_datagrams, append_failing}
-use Rattle.kk_outside.proofs.Taken.{events_told-took, append_datagrams-append}
+use Rattle.kk_outside.specs.Gate.{GateTold, prepend_events, events_told}
+use Rattle.kk_outside.specs.Outlet.{OutletTold, Send, Failed, IsCutShort, append_datagrams, append_failing}
+use Rattle.kk_outside.proofs.Taken.{append_datagrams-append}
 use Rattle.kk_code.specs.Ticket.{TicketFields}
 use Rattle.kk_frame.specs.declared.datagram.TheConstants.{MAX_DATAGRAM_FRAMES}
 use Rattle.kk_frame.specs.declared.frame.TheConstants.{FRAME_BYTES}
@@ -20,19 +20,20 @@ use Rattle.kk_frame.specs.declared.gate_count.Ended.TheVariants.{Idle, Most, Fau
 use Rattle.kk_frame.specs.declared.gate_count.Ended.TheVariants as ended
 use Rattle.kk_frame.specs.declared.gate_count.GateCount.{GateCount}
 use Rattle.kk_frame.specs.declared.limits.Limits.{Limits}
+use Rattle.kk_frame.specs.Asking.{HasAsked}
 use Rattle.kk_frame.specs.Datagram.{readings, data_frames}
-use Rattle.kk_frame.specs.Events.{datagrams, all_readings, end_with, stop, taken, counts, overs_to}
+use Rattle.kk_frame.specs.Events.{datagrams, all_readings, end_with, stop, taken, counts, ended_by_fault}
 use Rattle.kk_frame.specs.Frame.{End, frame_text}
 use Rattle.kk_frame.specs.Intake.{IntakeState, IsIntake, IsAfter, is_running}
+use Rattle.kk_frame.proofs.Asks.{HasAsked-start, taken_is, counts_is, asks, stops_there}
 use Rattle.kk_frame.proofs.Intakes.{running_goes_on}
 use Rattle.kk_frame.proofs.Readings.{data_frames-append}
 use Rattle.kk_frame.proofs.Stops.{datagrams-append}
-use Rattle.kk_relay.specs.Progress.{AreCut, HasRelayed, BreaksOff, LacksEnd, EndsShort, IsCutShort, AsksUpToStop, StopsThere, HasAsked}
+use Rattle.kk_relay.specs.Progress.{AreCut, HasRelayed, BreaksOff, LacksEnd, EndsShort}
 use Rattle.kk_relay.specs.RelayState.{BasisState, relay_after}
-use Rattle.kk_relay.specs.Relaying.{relayed, sent_behind, datagrams_of, is_failure, last_datagrams, relay_list}
+use Rattle.kk_relay.specs.Relaying.{relayed, sent_after, datagrams_of, last_datagrams, relay_list}
 use Rattle.kk_outside.specs.Generator.{after_words, word_at}
-use Rattle.kk_relay.proofs.Events.{HasAsked-start}
-use Rattle.kk_relay.proofs.Relays.{relayed-append, sent_behind-nil}
+use Rattle.kk_relay.proofs.Relays.{relayed-append, sent_after-nil}
 use Rattle.kk_relay.proofs.Sends.{AreSent-nothing, AreSent-same, length-datagrams_of, datagrams_of-append}
 use Rattle.kk_relay.proofs.Steps.{relayed-few}
 
@@ -52,53 +53,6 @@ goes_on t limits events (next ∷ more) intake is after running =
     let on = running_goes_on t events next more intake after running in
     (next ∷ on.0, ap (λ l. stop FRAME_BYTES t l (events ++ next ∷ more)) (sym is) ∙ on.1)
 
-left_of : (t : TicketFields) (limits : Limits) (events told : List Event) (old new : Option (List Event)) → old ≡ prepend_events events new → told ≡ events → IfSome new (λ more. stop FRAME_BYTES t limits (events ++ more) ≡ events) → IfSome old (λ all. stop FRAME_BYTES t limits all ≡ told)
-left_of t limits events told None new left are whole = tt
-left_of t limits events told (Some all) None left are whole = absurd (cc left)
-left_of t limits events told (Some all) (Some more) left are whole =
-    ap (stop FRAME_BYTES t limits) (same_Some _ _ left) ∙ whole ∙ sym are
-
-running_overs : (ended_so : Option Ended) → is_none ended_so ≡ true → overs_to ended_so ≡ 0
-running_overs None h = refl
-running_overs (Some e) h = absurd (false≢true h)
-
--- what was asked of a gate by an intake
-module _ (t : TicketFields) (limits : Limits) (gate : Change GateTold) (events : List Event) (frames : List (ℕ × ℕ)) (intake : IntakeState) (is : intake.limits ≡ limits) (asked : HasAsked t gate events frames intake) where
-  pub told_is : events_told gate ≡ events
-  told_is = events_told-took events gate asked.took
-
-  pub taken_is : taken FRAME_BYTES t limits (events_told gate) ≡ frames
-  taken_is = ap (taken FRAME_BYTES t limits) told_is ∙ ap (λ l. taken FRAME_BYTES t l events) (sym is) ∙ asked.frames_are
-
-  stop_is : stop FRAME_BYTES t limits events ≡ events
-  stop_is = ap (λ l. stop FRAME_BYTES t l events) (sym is) ∙ asked.all
-
-  pub counts_is : is_running intake ≡ false → intake.counts ≡ counts FRAME_BYTES t limits (events_told gate)
-  counts_is over =
-      asked.counts_are over
-      ∙ ap (λ l. counts FRAME_BYTES t l events) is
-      ∙ ap (counts FRAME_BYTES t limits) (sym told_is)
-
-  over_once_by : (running : Bool) → is_running intake ≡ running → gate.new.overs ≤ gate.old.overs + overs_to (counts FRAME_BYTES t limits (events_told gate)).ended
-  over_once_by true running = omega (arith, asked.over, running_overs intake.counts.ended running)
-  over_once_by false over = omega (arith, asked.over, ap (λ (c : GateCount). overs_to c.ended) (counts_is over))
-
-  pub asks : AsksUpToStop t limits gate
-  asks = record {
-    took = subst (λ es. TookEvents es gate) (sym told_is) asked.took;
-    no_further = ap (stop FRAME_BYTES t limits) told_is ∙ stop_is ∙ sym told_is;
-    over_once = over_once_by (is_running intake) refl;
-  }
-
-  stop_there : is_running intake ≡ false → IfSome gate.old.left (λ all. stop FRAME_BYTES t limits all ≡ events_told gate)
-  stop_there over = left_of t limits events (events_told gate) gate.old.left gate.new.left asked.took.left told_is (subst (λ l. IfSome gate.new.left (λ more. stop FRAME_BYTES t l (events ++ more) ≡ events)) is (asked.whole over))
-
-  pub stops_there : is_running intake ≡ false → StopsThere t limits gate
-  stops_there over = record {
-    stop_is = stop_there over;
-    over = asked.over ∙ ap (λ (c : GateCount). gate.old.overs + overs_to c.ended) (counts_is over);
-  }
-
 -- ---- a run
 
 -- A run so far: the events that the gate told, the data frames of them, and what was sent for these.
@@ -112,7 +66,7 @@ pub record Run (t : TicketFields) (limits : Limits) (rate : ℕ) (start : Stream
   pub same : outlet.new.faults ≡ outlet.old.faults
 
 sent-none : (rate : ℕ) (word : ℕ → ℕ) → relayed rate word [] ≡ []
-sent-none rate word = sent_behind-nil rate word 0 []
+sent-none rate word = sent_after-nil rate word 0 []
 
 pub Run-start : (t : TicketFields) (limits : Limits) (rate : ℕ) (start : Stream) (gate : GateTold) (outlet : OutletTold) (intake : IntakeState) (relay : List BasisState) → intake.limits ≡ limits → ((u : TicketFields) → IsAfter u [] intake) → is_running intake ≡ true → relay ≡ relay_after t [] → Run t limits rate start (change gate gate) (change outlet outlet) intake relay start 0
 Run-start t limits rate start gate outlet intake relay is after running none = record {
@@ -159,7 +113,7 @@ module _ (t : TicketFields) (limits : Limits) (rate : ℕ) (start : Stream) (gat
       ap (λ (l : List (ℕ × ℕ)). datagrams_of t (relayed rate (word_at start) l) ++ last_datagrams t (counts FRAME_BYTES t limits (events_told gate)).ended) (taken_is t limits gate run.events run.frames intake run.is run.asked)
       ∙ ap (λ (c : GateCount). datagrams_of t (relayed rate (word_at start) run.frames) ++ last_datagrams t c.ended) (sym (counts_is t limits gate run.events run.frames intake run.is run.asked over))
 
-  pub list_failed : is_failure intake.counts.ended ≡ true → outlet.new.sends ≡ append_datagrams outlet.old.sends (relay_list t limits rate (word_at start) (events_told gate))
+  pub list_failed : ended_by_fault intake.counts.ended ≡ true → outlet.new.sends ≡ append_datagrams outlet.old.sends (relay_list t limits rate (word_at start) (events_told gate))
   list_failed failed =
       let none : last_datagrams t intake.counts.ended ≡ [] = rw failed refl in
       run.progress.sent.sent
@@ -168,13 +122,13 @@ module _ (t : TicketFields) (limits : Limits) (rate : ℕ) (start : Stream) (gat
       ∙ ap (λ (l : List (List ℕ)). datagrams_of t (relayed rate (word_at start) run.frames) ++ l) (sym none)
       ∙ sym list_is)
 
-  list_ended : is_failure intake.counts.ended ≡ false → relay_list t limits rate (word_at start) (events_told gate) ≡ datagrams_of t (relayed rate (word_at start) run.frames) ++ frame_text t End ∷ []
+  list_ended : ended_by_fault intake.counts.ended ≡ false → relay_list t limits rate (word_at start) (events_told gate) ≡ datagrams_of t (relayed rate (word_at start) run.frames) ++ frame_text t End ∷ []
   list_ended well =
       let one : last_datagrams t intake.counts.ended ≡ frame_text t End ∷ [] = rw well refl in
       list_is ∙ ap (λ (l : List (List ℕ)). datagrams_of t (relayed rate (word_at start) run.frames) ++ l) one
 
   -- END was sent too
-  pub list_sent : (end : OutletTold) → is_failure intake.counts.ended ≡ false → end.sends ≡ append_datagrams outlet.new.sends (frame_text t End ∷ []) → end.sends ≡ append_datagrams outlet.old.sends (relay_list t limits rate (word_at start) (events_told gate))
+  pub list_sent : (end : OutletTold) → ended_by_fault intake.counts.ended ≡ false → end.sends ≡ append_datagrams outlet.new.sends (frame_text t End ∷ []) → end.sends ≡ append_datagrams outlet.old.sends (relay_list t limits rate (word_at start) (events_told gate))
   list_sent end well last =
       last
       ∙ ap (λ o. append_datagrams o (frame_text t End ∷ [])) run.progress.sent.sent
@@ -182,7 +136,7 @@ module _ (t : TicketFields) (limits : Limits) (rate : ℕ) (start : Stream) (gat
       ∙ ap (append_datagrams outlet.old.sends) (sym (list_ended well))
 
   -- the send of END failed
-  pub list_without_end : (end : OutletTold) → is_failure intake.counts.ended ≡ false → end.sends ≡ outlet.new.sends ++ Failed ∷ [] → IsCutShort (change outlet.old end) (relay_list t limits rate (word_at start) (events_told gate))
+  pub list_without_end : (end : OutletTold) → ended_by_fault intake.counts.ended ≡ false → end.sends ≡ outlet.new.sends ++ Failed ∷ [] → IsCutShort (change outlet.old end) (relay_list t limits rate (word_at start) (events_told gate))
   list_without_end end well failed =
       let front = datagrams_of t (relayed rate (word_at start) run.frames) in
       record {
@@ -212,7 +166,7 @@ cut_same outlet t limits rate word told None cut whole is = tt
 cut_same outlet t limits rate word told (Some all) cut whole is = subst (IsCutShort outlet) (sym (list_same t limits rate word all told is whole)) cut
 
 -- the send of END failed: less than the list of all events that the gate had left was sent
-pub without_end_of_all : (t : TicketFields) (limits : Limits) (rate : ℕ) (start : Stream) (gate : Change GateTold) (outlet : Change OutletTold) (intake : IntakeState) (relay : List BasisState) (words : Stream) (sent : ℕ) (end : OutletTold) → Run t limits rate start gate outlet intake relay words sent → is_running intake ≡ false → is_failure intake.counts.ended ≡ false → end.sends ≡ outlet.new.sends ++ Failed ∷ [] → IfSome gate.old.left (λ all. IsCutShort (change outlet.old end) (relay_list t limits rate (word_at start) all))
+pub without_end_of_all : (t : TicketFields) (limits : Limits) (rate : ℕ) (start : Stream) (gate : Change GateTold) (outlet : Change OutletTold) (intake : IntakeState) (relay : List BasisState) (words : Stream) (sent : ℕ) (end : OutletTold) → Run t limits rate start gate outlet intake relay words sent → is_running intake ≡ false → ended_by_fault intake.counts.ended ≡ false → end.sends ≡ outlet.new.sends ++ Failed ∷ [] → IfSome gate.old.left (λ all. IsCutShort (change outlet.old end) (relay_list t limits rate (word_at start) all))
 without_end_of_all t limits rate start gate outlet intake relay words sent end run over well failed =
     cut_same (change outlet.old end) t limits rate (word_at start) (events_told gate) gate.old.left
     (list_without_end t limits rate start gate outlet intake relay words sent run over end well failed)
@@ -224,7 +178,7 @@ without_end_of_all t limits rate start gate outlet intake relay words sent end r
 cut_of : (t : TicketFields) (rate : ℕ) (start : Stream) (n : ℕ) (frames more : List (ℕ × ℕ)) (rest : List (List ℕ)) (outlet : Change OutletTold) (words : Stream) → AreCut t start 0 n (relayed rate (word_at start) frames) outlet words → IsCutShort outlet (datagrams_of t (relayed rate (word_at start) (frames ++ more)) ++ rest)
 cut_of t rate start n frames more rest outlet words cut =
     let sent = relayed rate (word_at start) frames in
-    let others = sent_behind rate (word_at start) (length sent) frames more in
+    let others = sent_after rate (word_at start) (length sent) frames more in
     let parts : datagrams_of t (relayed rate (word_at start) (frames ++ more)) ≡ datagrams_of t sent ++ datagrams_of t others = ap (datagrams_of t) (relayed-append rate (word_at start) frames more) ∙ datagrams_of-append t sent others in
     let count = length-datagrams_of t sent in
     let whole : datagrams_of t (relayed rate (word_at start) (frames ++ more)) ++ rest ≡ datagrams_of t sent ++ (datagrams_of t others ++ rest) = ap (λ (l : List (List ℕ)). l ++ rest) parts ∙ append_assoc (datagrams_of t sent) (datagrams_of t others) rest in
@@ -273,7 +227,7 @@ module _ (t : TicketFields) (limits : Limits) (rate : ℕ) (start : Stream) (gat
 
 -- ---- causes
 
-pub failure_is : (o : Option Ended) → is_failure o ≡ true → o ≡ Some Fault
+pub failure_is : (o : Option Ended) → ended_by_fault o ≡ true → o ≡ Some Fault
 failure_is None h = absurd (false≢true h)
 failure_is (Some ended.End) h = absurd (false≢true h)
 failure_is (Some Idle) h = absurd (false≢true h)
@@ -281,10 +235,15 @@ failure_is (Some Most) h = absurd (false≢true h)
 failure_is (Some Fault) h = refl
 failure_is (Some Over) h = absurd (false≢true h)
 
-pub no_failure : (o : Option Ended) → is_failure o ≡ false → o ≡ Some Fault → ⊥
-no_failure o h is = false≢true (sym h ∙ ap is_failure is)
+pub no_failure : (o : Option Ended) → ended_by_fault o ≡ false → o ≡ Some Fault → ⊥
+no_failure o h is = false≢true (sym h ∙ ap ended_by_fault is)
 
 -- what holds of an event that was a datagram
 pub of_datagram : {A : Type 0} (P : Type 0) (o : Option A) → is_some o ≡ true → IfSome o (λ _. P) → P
 of_datagram P None some h = absurd (false≢true some)
 of_datagram P (Some x) some h = h
+
+-- what a test for a fault answers of how a gate ended
+pub fault_told : (o : Option Ended) (answer : Bool) → MatchOption o (answer ≡ false) (λ ended_so. answer ≡ ended_by_fault (Some ended_so)) → ended_by_fault o ≡ answer
+fault_told None answer is = sym is
+fault_told (Some ended_so) answer is = sym is

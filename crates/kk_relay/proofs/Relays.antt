@@ -8,7 +8,7 @@ use Rattle.std.proofs.lemmas.List.{append-nil, same_lists}
 use Rattle.std.proofs.lemmas.List.Elements.{All-map}
 use Rattle.std.proofs.lemmas.List.FromFn.{length-map-range_with_len, get_or-map-range_with_len}
 use Rattle.kk_rows.specs.Combination.{combination}
-use Rattle.kk_rows.specs.Span.{in_span, innovative, innovative_behind}
+use Rattle.kk_rows.specs.Span.{in_span, innovative, innovative_after}
 use Rattle.kk_rows.proofs.Combinations.{in_span-combination}
 use Rattle.kk_rows.proofs.Dimensions.{innovative-push_inside, innovative-push_outside, in_span_innovative}
 use Rattle.kk_code.specs.Codeword.{width}
@@ -17,7 +17,7 @@ use Rattle.kk_frame.specs.Generation.{rows_of}
 use Rattle.kk_frame.proofs.Generations.{rows_of-push_same, rows_of-push_other}
 use Rattle.kk_relay.specs.Laws.{RelayedRowsAreSpanned}
 use Rattle.kk_relay.specs.RelayState.{BasisState, no_rows, with_row, basis_after, relay_after}
-use Rattle.kk_relay.specs.Relaying.{held, emissions, combinations, sent_for, sent_behind, relayed}
+use Rattle.kk_relay.specs.Relaying.{held, emissions, combinations, sent_for, sent_after, relayed}
 use Rattle.kk_relay.proofs.Bases.{with_row-inside, with_row-outside}
 
 -- ---- what is sent
@@ -25,51 +25,51 @@ use Rattle.kk_relay.proofs.Bases.{with_row-inside, with_row-outside}
 pub length-combinations : (word : ℕ → ℕ) (g : ℕ) (rows : List ℕ) (first n : ℕ) → length (combinations word g rows first n) ≡ n
 length-combinations word g rows first n = length-map-range_with_len (λ i. (g, combination rows (word i))) first n
 
-pub sent_behind-cons : (rate : ℕ) (word : ℕ → ℕ) (first : ℕ) (before : List (ℕ × ℕ)) (frame : ℕ × ℕ) (frames : List (ℕ × ℕ)) → sent_behind rate word first before (frame ∷ frames) ≡ sent_for rate word first before frame ++ sent_behind rate word (first + length (sent_for rate word first before frame)) (before ++ frame ∷ []) frames
-unfolding sent_behind
-sent_behind-cons rate word first before frame frames = refl
+pub sent_after-cons : (rate : ℕ) (word : ℕ → ℕ) (first : ℕ) (before : List (ℕ × ℕ)) (frame : ℕ × ℕ) (frames : List (ℕ × ℕ)) → sent_after rate word first before (frame ∷ frames) ≡ sent_for rate word first before frame ++ sent_after rate word (first + length (sent_for rate word first before frame)) (before ++ frame ∷ []) frames
+unfolding sent_after
+sent_after-cons rate word first before frame frames = refl
 
-pub sent_behind-nil : (rate : ℕ) (word : ℕ → ℕ) (first : ℕ) (before : List (ℕ × ℕ)) → sent_behind rate word first before [] ≡ []
-unfolding sent_behind
-sent_behind-nil rate word first before = refl
+pub sent_after-nil : (rate : ℕ) (word : ℕ → ℕ) (first : ℕ) (before : List (ℕ × ℕ)) → sent_after rate word first before [] ≡ []
+unfolding sent_after
+sent_after-nil rate word first before = refl
 
 -- for some data frames, and then for others
-pub sent_behind-append : (rate : ℕ) (word : ℕ → ℕ) (first : ℕ) (before frames more : List (ℕ × ℕ)) → sent_behind rate word first before (frames ++ more) ≡ sent_behind rate word first before frames ++ sent_behind rate word (first + length (sent_behind rate word first before frames)) (before ++ frames) more
-sent_behind-append rate word first before [] more =
-    let none = sent_behind-nil rate word first before in
-    let same : first + length (sent_behind rate word first before []) ≡ first = omega (arith, ap length none) in
-    ap (λ (n : ℕ). sent_behind rate word n before more) (sym same)
-    ∙ ap (λ (l : List (ℕ × ℕ)). sent_behind rate word (first + length (sent_behind rate word first before [])) l more) (sym (append-nil before))
-    ∙ ap (λ (l : List (ℕ × ℕ)). l ++ sent_behind rate word (first + length (sent_behind rate word first before [])) (before ++ []) more) (sym none)
-sent_behind-append rate word first before (frame ∷ frames) more =
+pub sent_after-append : (rate : ℕ) (word : ℕ → ℕ) (first : ℕ) (before frames more : List (ℕ × ℕ)) → sent_after rate word first before (frames ++ more) ≡ sent_after rate word first before frames ++ sent_after rate word (first + length (sent_after rate word first before frames)) (before ++ frames) more
+sent_after-append rate word first before [] more =
+    let none = sent_after-nil rate word first before in
+    let same : first + length (sent_after rate word first before []) ≡ first = omega (arith, ap length none) in
+    ap (λ (n : ℕ). sent_after rate word n before more) (sym same)
+    ∙ ap (λ (l : List (ℕ × ℕ)). sent_after rate word (first + length (sent_after rate word first before [])) l more) (sym (append-nil before))
+    ∙ ap (λ (l : List (ℕ × ℕ)). l ++ sent_after rate word (first + length (sent_after rate word first before [])) (before ++ []) more) (sym none)
+sent_after-append rate word first before (frame ∷ frames) more =
     let now = before ++ frame ∷ [] in
     let sent = sent_for rate word first before frame in
     let next = first + length sent in
-    let rest = sent_behind rate word next now frames in
-    let whole = sent_behind-cons rate word first before frame frames in
-    let count : next + length rest ≡ first + length (sent_behind rate word first before (frame ∷ frames)) = omega (arith, ap length whole, length-append sent rest) in
+    let rest = sent_after rate word next now frames in
+    let whole = sent_after-cons rate word first before frame frames in
+    let count : next + length rest ≡ first + length (sent_after rate word first before (frame ∷ frames)) = omega (arith, ap length whole, length-append sent rest) in
     let joined : now ++ frames ≡ before ++ (frame ∷ frames) = append_assoc before (frame ∷ []) frames in
-    sent_behind-cons rate word first before frame (frames ++ more)
-    ∙ ap (λ (l : List (ℕ × ℕ)). sent ++ l) (sent_behind-append rate word next now frames more)
-    ∙ sym (append_assoc sent rest (sent_behind rate word (next + length rest) (now ++ frames) more))
-    ∙ ap (λ (n : ℕ). (sent ++ rest) ++ sent_behind rate word n (now ++ frames) more) count
-    ∙ ap (λ (l : List (ℕ × ℕ)). (sent ++ rest) ++ sent_behind rate word (first + length (sent_behind rate word first before (frame ∷ frames))) l more) joined
-    ∙ ap (λ (l : List (ℕ × ℕ)). l ++ sent_behind rate word (first + length (sent_behind rate word first before (frame ∷ frames))) (before ++ frame ∷ frames) more) (sym whole)
+    sent_after-cons rate word first before frame (frames ++ more)
+    ∙ ap (λ (l : List (ℕ × ℕ)). sent ++ l) (sent_after-append rate word next now frames more)
+    ∙ sym (append_assoc sent rest (sent_after rate word (next + length rest) (now ++ frames) more))
+    ∙ ap (λ (n : ℕ). (sent ++ rest) ++ sent_after rate word n (now ++ frames) more) count
+    ∙ ap (λ (l : List (ℕ × ℕ)). (sent ++ rest) ++ sent_after rate word (first + length (sent_after rate word first before (frame ∷ frames))) l more) joined
+    ∙ ap (λ (l : List (ℕ × ℕ)). l ++ sent_after rate word (first + length (sent_after rate word first before (frame ∷ frames))) (before ++ frame ∷ frames) more) (sym whole)
 
 -- what is sent for more data frames comes after what is sent for these
-pub relayed-append : (rate : ℕ) (word : ℕ → ℕ) (frames more : List (ℕ × ℕ)) → relayed rate word (frames ++ more) ≡ relayed rate word frames ++ sent_behind rate word (length (relayed rate word frames)) frames more
+pub relayed-append : (rate : ℕ) (word : ℕ → ℕ) (frames more : List (ℕ × ℕ)) → relayed rate word (frames ++ more) ≡ relayed rate word frames ++ sent_after rate word (length (relayed rate word frames)) frames more
 relayed-append rate word frames more =
-    sent_behind-append rate word 0 [] frames more
-    ∙ ap (λ (n : ℕ). relayed rate word frames ++ sent_behind rate word n frames more) (omega arith)
+    sent_after-append rate word 0 [] frames more
+    ∙ ap (λ (n : ℕ). relayed rate word frames ++ sent_after rate word n frames more) (omega arith)
 
 -- one data frame more
 pub relayed-push : (rate : ℕ) (word : ℕ → ℕ) (frames : List (ℕ × ℕ)) (frame : ℕ × ℕ) → relayed rate word (frames ++ frame ∷ []) ≡ relayed rate word frames ++ sent_for rate word (length (relayed rate word frames)) frames frame
 relayed-push rate word frames frame =
     let first = length (relayed rate word frames) in
     let sent = sent_for rate word first frames frame in
-    let one : sent_behind rate word first frames (frame ∷ []) ≡ sent =
-    sent_behind-cons rate word first frames frame []
-    ∙ ap (λ (l : List (ℕ × ℕ)). sent ++ l) (sent_behind-nil rate word (first + length sent) (frames ++ frame ∷ []))
+    let one : sent_after rate word first frames (frame ∷ []) ≡ sent =
+    sent_after-cons rate word first frames frame []
+    ∙ ap (λ (l : List (ℕ × ℕ)). sent ++ l) (sent_after-nil rate word (first + length sent) (frames ++ frame ∷ []))
     ∙ append-nil sent in
     relayed-append rate word frames (frame ∷ []) ∙ ap (λ (l : List (ℕ × ℕ)). relayed rate word frames ++ l) one
 
@@ -105,7 +105,7 @@ held-push_other t frames g generation row other =
     ap (λ (l : List ℕ). let b : BasisState = record { width = width t.code; rows = innovative l } in b) (rows_of-push_other g frames generation row other)
 
 pub basis_after-none : (t : TicketFields) (g : ℕ) → basis_after t [] g ≡ no_rows (width t.code)
-unfolding rows_of innovative_behind
+unfolding rows_of innovative_after
 basis_after-none t g = refl
 
 pub length-relay_after : (t : TicketFields) (frames : List (ℕ × ℕ)) → length (relay_after t frames) ≡ generations t

@@ -10,9 +10,9 @@ use Rattle.kk_code.specs.Codeword.{width}
 use Rattle.kk_code.specs.Ticket.{TicketFields, generations}
 use Rattle.kk_relay.specs.Progress.{AreSent, AreCut, HasRelayed, BreaksOff}
 use Rattle.kk_relay.specs.RelayState.{BasisState, no_rows, with_row, relay_after}
-use Rattle.kk_relay.specs.Relaying.{held, emissions, combinations, sent_for, sent_behind, relayed}
+use Rattle.kk_relay.specs.Relaying.{held, emissions, combinations, sent_for, sent_after, relayed}
 use Rattle.kk_outside.specs.Generator.{after_words, word_at}
-use Rattle.kk_relay.proofs.Relays.{length-combinations, length-sent_for, sent_behind-cons, sent_behind-nil, relayed-append, relayed-push, relay_after-push, get_or-relay_after}
+use Rattle.kk_relay.proofs.Relays.{length-combinations, length-sent_for, sent_after-cons, sent_after-nil, relayed-append, relayed-push, relay_after-push, get_or-relay_after}
 use Rattle.kk_relay.proofs.Sends.{AreSent-append, AreSent-same, AreCut-append, AreCut-same, AreCut-more}
 
 emissions-none : (rate : ℕ) (rows : List ℕ) → length rows ≡ 0 → emissions rate rows ≡ 0
@@ -119,7 +119,7 @@ pub BreaksOff-more : (t : TicketFields) (rate : ℕ) (start : Stream) (frames mo
 BreaksOff-more t rate start frames more origin now relay words off =
     let word = word_at start in
     let sent = relayed rate word frames in
-    let others = sent_behind rate word (length sent) frames more in
+    let others = sent_after rate word (length sent) frames more in
     let front = take-append-le off.count frames more off.within in
     let fewer = take-append-le (off.count - 1) frames more (omega (arith, off.within)) in
     record {
@@ -154,13 +154,13 @@ pub few_more : (sent more rate i : ℕ) → sent ≤ rate * i → more ≤ rate 
 few_more sent more rate i few one = let product : rate * (i + 1) ≡ rate * i + rate = ap (λ (n : ℕ). rate * n) (add-one i) ∙ mul-suc rate i ∙ omega arith in omega (arith, few, one, product)
 
 -- at most `rate` are sent for each data frame
-sent_behind-few : (rate : ℕ) (word : ℕ → ℕ) (first : ℕ) (before frames : List (ℕ × ℕ)) → length (sent_behind rate word first before frames) ≤ rate * length frames
-sent_behind-few rate word first before [] = omega (arith, ap length (sent_behind-nil rate word first before))
-sent_behind-few rate word first before (frame ∷ frames) =
+sent_after-few : (rate : ℕ) (word : ℕ → ℕ) (first : ℕ) (before frames : List (ℕ × ℕ)) → length (sent_after rate word first before frames) ≤ rate * length frames
+sent_after-few rate word first before [] = omega (arith, ap length (sent_after-nil rate word first before))
+sent_after-few rate word first before (frame ∷ frames) =
     let sent = sent_for rate word first before frame in
     let next = first + length sent in
-    let others = sent_behind rate word next (before ++ frame ∷ []) frames in
-    omega (arith, ap length (sent_behind-cons rate word first before frame frames), length-append sent others, few_more (length others) (length sent) rate (length frames) (sent_behind-few rate word next (before ++ frame ∷ []) frames) (length-sent_for rate word first before frame), mul-suc rate (length frames), ap (λ (n : ℕ). rate * n) (add-one (length frames)))
+    let others = sent_after rate word next (before ++ frame ∷ []) frames in
+    omega (arith, ap length (sent_after-cons rate word first before frame frames), length-append sent others, few_more (length others) (length sent) rate (length frames) (sent_after-few rate word next (before ++ frame ∷ []) frames) (length-sent_for rate word first before frame), mul-suc rate (length frames), ap (λ (n : ℕ). rate * n) (add-one (length frames)))
 
 pub relayed-few : (rate : ℕ) (word : ℕ → ℕ) (frames : List (ℕ × ℕ)) → length (relayed rate word frames) ≤ rate * length frames
-relayed-few rate word frames = sent_behind-few rate word 0 [] frames
+relayed-few rate word frames = sent_after-few rate word 0 [] frames

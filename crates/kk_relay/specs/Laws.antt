@@ -10,5 +10,6 @@ pub record IsSentFor (rate : ℕ) (word : ℕ → ℕ) (before : List (ℕ × �
   pub next : relayed rate word (before ++ frame ∷ []) ≡ relayed rate word before ++ sent_for rate word (length (relayed rate word before)) before frame
   pub spanned : (first : ℕ) → All (λ sent. (sent.0 ≡ frame.0) × IsTrue (in_span (rows_of frame.0 (before ++ frame ∷ [])) sent.1)) (sent_for rate word first before frame)
 
+-- Each row that a relay sends lies in the span of the rows of its generation that were taken before it, and is the next of its list.
 abbrev pub RelayedRowsAreSpanned : Type 0
 RelayedRowsAreSpanned = (rate : ℕ) (word : ℕ → ℕ) (before : List (ℕ × ℕ)) (frame : ℕ × ℕ) → IsSentFor rate word before frame

@@ -1,17 +1,11 @@
 -- How far a relay has come.
-use Rattle.std.specs.Prelude.{◌≡◌, ◌⊎◌, ℕ, ◌+◌, ◌-◌, ◌<◌, ◌≤◌, true, false, Option, Some, None, IfSome, List, [], ◌++◌, length, take}
+use Rattle.std.specs.Prelude.{◌≡◌, ◌⊎◌, ℕ, ◌+◌, ◌-◌, ◌<◌, ◌≤◌, List, length, take}
 use Rattle.rand_core.specs.Stream.{Stream}
-use Rattle.kk_outside.specs.Causes.{Rose}
 use Rattle.kk_outside.specs.Change.{Change}
-use Rattle.kk_outside.specs.Gate.{GateTold, TookEvents, events_told}
 use Rattle.kk_outside.specs.Outlet.{OutletTold, append_datagrams, append_failing}
-use Rattle.kk_outside.specs.declared.event.Event.{Event}
+pub use Rattle.kk_outside.specs.Outlet.{IsCutShort}
 use Rattle.kk_code.specs.Ticket.{TicketFields}
-use Rattle.kk_frame.specs.declared.frame.TheConstants.{FRAME_BYTES}
-use Rattle.kk_frame.specs.declared.gate_count.Ended.TheVariants.{Fault}
-use Rattle.kk_frame.specs.declared.limits.Limits.{Limits}
-use Rattle.kk_frame.specs.Events.{stop, taken, counts, overs_to}
-use Rattle.kk_frame.specs.Intake.{IntakeState, IsAfter, is_running}
+pub use Rattle.kk_frame.specs.Asking.{AsksUpToStop, StopsThere}
 use Rattle.kk_relay.specs.Relaying.{relayed, datagrams_of}
 use Rattle.kk_relay.specs.RelayState.{BasisState, relay_after}
 use Rattle.kk_outside.specs.Generator.{after_words, word_at}
@@ -57,48 +51,3 @@ pub record LacksEnd (t : TicketFields) (rate : ℕ) (start : Stream) (frames : L
 abbrev pub EndsShort : TicketFields → ℕ → Stream → List (ℕ × ℕ) → Change OutletTold → List BasisState → Stream → Type 0
 EndsShort t rate start frames outlet relay words =
     BreaksOff t rate start frames outlet relay words ⊎ LacksEnd t rate start frames outlet relay words
-
--- ---- datagrams
-
--- These datagrams were sent from the front, and not all of them; then a send failed, and it was the last.
-pub record IsCutShort (outlet : Change OutletTold) (datagrams : List (List ℕ)) : Type 0 where
-  pub number : ℕ
-  pub few : number < length datagrams
-  pub sent : outlet.new.sends ≡ append_failing outlet.old.sends (take number datagrams)
-
--- ---- events
-
--- its count of faults rose where this holds, and else it stayed
-pub record RoseWhere (failed : Type 0) (old new : ℕ) : Type 0 where
-  pub rose : failed → Rose old new
-  pub kept : (failed → ⊥) → new ≡ old
-
--- The events that the calls of a call told were taken of the gate, and none after the stop. No call came after one that
--- answered that they are over.
-pub record AsksUpToStop (t : TicketFields) (limits : Limits) (gate : Change GateTold) : Type 0 where
-  pub took : TookEvents (events_told gate) gate
-  pub no_further : stop FRAME_BYTES t limits (events_told gate) ≡ events_told gate
-  pub over_once : gate.new.overs ≤ gate.old.overs + overs_to (counts FRAME_BYTES t limits (events_told gate)).ended
-
--- The gate was asked up to its stop: the stop of all events that it had left is that of those that it told, and where that is
--- no stop, it answered that they are over.
-pub record StopsThere (t : TicketFields) (limits : Limits) (gate : Change GateTold) : Type 0 where
-  pub stop_is : IfSome gate.old.left (λ events. stop FRAME_BYTES t limits events ≡ events_told gate)
-  pub over : gate.new.overs ≡ gate.old.overs + overs_to (counts FRAME_BYTES t limits (events_told gate)).ended
-
--- An intake was given these events, which the gate told, and took these data frames of them. Where it has ended, it tells the
--- counts of the gate, and no more events would be taken.
-pub record HasAsked (t : TicketFields) (gate : Change GateTold) (events : List Event) (frames : List (ℕ × ℕ)) (intake : IntakeState) : Type 0 where
-  pub took : TookEvents events gate
-  pub over : gate.new.overs ≡ gate.old.overs + overs_to intake.counts.ended
-  pub all : stop FRAME_BYTES t intake.limits events ≡ events
-  pub frames_are : taken FRAME_BYTES t intake.limits events ≡ frames
-  pub running : is_running intake ≡ true → IsAfter t events intake
-  pub counts_are : is_running intake ≡ false → intake.counts ≡ counts FRAME_BYTES t intake.limits events
-  pub whole : is_running intake ≡ false → IfSome gate.new.left (λ more. stop FRAME_BYTES t intake.limits (events ++ more) ≡ events)
-  pub cause : RoseWhere (intake.counts.ended ≡ Some Fault) gate.old.faults gate.new.faults
-
--- the data frames of an event, where it is a datagram
-abbrev pub frames_of : Option (List (ℕ × ℕ)) → List (ℕ × ℕ)
-frames_of None = []
-frames_of (Some batch) = batch

@@ -1,6 +1,6 @@
 -- What a relay holds and sends, as functions of the data frames that it takes. A data frame is the pair of its generation and
 -- its row.
-use Rattle.std.specs.Prelude.{ℕ, ◌+◌, Bool, true, false, if◌then◌else◌, Option, Some, None, List, [], ◌∷◌, ◌++◌, length, map}
+use Rattle.std.specs.Prelude.{ℕ, ◌+◌, if◌then◌else◌, Option, List, [], ◌∷◌, ◌++◌, length, map}
 use Rattle.std.specs.List.{range_with_len}
 use Rattle.kk_rows.specs.Combination.{combination}
 use Rattle.kk_rows.specs.Span.{innovative}
@@ -8,9 +8,8 @@ use Rattle.kk_code.specs.Ticket.{TicketFields}
 use Rattle.kk_outside.specs.declared.event.Event.{Event}
 use Rattle.kk_frame.specs.declared.frame.TheConstants.{FRAME_BYTES}
 use Rattle.kk_frame.specs.declared.gate_count.Ended.{Ended}
-use Rattle.kk_frame.specs.declared.gate_count.Ended.TheVariants.{End as EndRead, Idle, Most, Fault, Over}
 use Rattle.kk_frame.specs.declared.limits.Limits.{Limits}
-use Rattle.kk_frame.specs.Events.{taken, counts}
+use Rattle.kk_frame.specs.Events.{taken, counts, ended_by_fault}
 use Rattle.kk_frame.specs.Frame.{Vector, End, frame_text}
 use Rattle.kk_frame.specs.Generation.{rows_of}
 
@@ -38,15 +37,15 @@ sent_for rate word first before frame =
     combinations word frame.0 rows first (emissions rate rows)
 
 -- the same for data frames one after another; each that is sent takes one word
-unfoldable pub sent_behind : ℕ → (ℕ → ℕ) → ℕ → List (ℕ × ℕ) → List (ℕ × ℕ) → List (ℕ × ℕ)
-sent_behind rate word first before [] = []
-sent_behind rate word first before (frame ∷ frames) =
+unfoldable pub sent_after : ℕ → (ℕ → ℕ) → ℕ → List (ℕ × ℕ) → List (ℕ × ℕ) → List (ℕ × ℕ)
+sent_after rate word first before [] = []
+sent_after rate word first before (frame ∷ frames) =
     let sent = sent_for rate word first before frame in
-    sent ++ sent_behind rate word (first + length sent) (before ++ frame ∷ []) frames
+    sent ++ sent_after rate word (first + length sent) (before ++ frame ∷ []) frames
 
 -- the data frames that a relay sends for those that it takes
 abbrev pub relayed : ℕ → (ℕ → ℕ) → List (ℕ × ℕ) → List (ℕ × ℕ)
-relayed rate word frames = sent_behind rate word 0 [] frames
+relayed rate word frames = sent_after rate word 0 [] frames
 
 -- ---- datagrams
 
@@ -54,18 +53,9 @@ relayed rate word frames = sent_behind rate word 0 [] frames
 abbrev pub datagrams_of : TicketFields → List (ℕ × ℕ) → List (List ℕ)
 datagrams_of t frames = map (λ frame. frame_text t (Vector frame.0 frame.1)) frames
 
--- a gate that ended so failed
-abbrev pub is_failure : Option Ended → Bool
-is_failure (Some EndRead) = false
-is_failure (Some Idle) = false
-is_failure (Some Most) = false
-is_failure (Some Fault) = true
-is_failure (Some Over) = false
-is_failure None = false
-
 -- what comes after the data frames of a gate that ended so: END, unless the gate failed
 abbrev pub last_datagrams : TicketFields → Option Ended → List (List ℕ)
-last_datagrams t ended = if is_failure ended then [] else frame_text t End ∷ []
+last_datagrams t ended = if ended_by_fault ended then [] else frame_text t End ∷ []
 
 -- the relay's list: what it sends of a gate with these events
 abbrev pub relay_list : TicketFields → Limits → ℕ → (ℕ → ℕ) → List Event → List (List ℕ)

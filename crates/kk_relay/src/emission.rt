@@ -1,38 +1,20 @@
 //! Data frames on their way to the outlet.
-ghost use Rattle.std.specs.Prelude.{◌≡◌, ◌+◌, ◌<◌, ◌^◌, ℕ, All, OnOk, OnErr, [], ◌∷◌};
+ghost use Rattle.std.specs.Prelude.{◌≡◌, ◌+◌, ◌<◌, ◌^◌, ℕ, All, OnOk, OnErr};
 ghost use Rattle.rand_core.specs.Stream.{Stream};
 ghost use Rattle.kk_rows.specs.Rows.{numbers};
 ghost use Rattle.kk_outside.specs.Causes.{HasCause};
 ghost use Rattle.kk_outside.specs.Change.{change};
-ghost use Rattle.kk_outside.specs.Outlet.{SendsTo};
 ghost use Rattle.kk_code.specs.Codeword.{width};
 ghost use Rattle.kk_code.specs.Ticket.{generations};
-ghost use Rattle.kk_frame.specs.Frame.{IsFrame, frame_text};
-ghost use Rattle.kk_frame.specs.FrameView.{value};
 ghost use Rattle.kk_relay.specs.Progress.{AreSent, AreCut};
 ghost use Rattle.kk_relay.specs.Relaying.{combinations};
 ghost use Rattle.kk_outside.specs.Generator.{after_words, word_at};
 
 use kk_code::Ticket;
-use kk_frame::{FRAME_BYTES, Frame, write_frame};
+use kk_frame::{Frame, send_frame};
 use kk_outside::{Failed, Outlet};
 use kk_rows::{Row, combination};
 use rand_core::Rng;
-
-/// Sends a frame, whose generation and row are in the ticket's range, as a datagram of its own.
-pub(crate) fn send_frame<O: Outlet>(
-    frame: &Frame,
-    ticket: &Ticket,
-    outlet: &mut O,
-) -> Result<(), Failed>
-    requires { IsFrame ticket.now (value frame.now) }
-    ensures sends { SendsTo (change (O.told outlet.old) (O.told outlet.new)) result (frame_text ticket.now (value frame.now)) }
-    ensures cause { HasCause (O.told outlet.old).faults (O.told outlet.new).faults result }
-{
-    let mut text = [0; FRAME_BYTES];
-    write_frame(frame, ticket, &mut text);
-    outlet.send(&text)
-}
 
 /// Sends `rate` combinations of the rows of a generation, each by the next word of the generator.
 pub(crate) fn send_combinations<O: Outlet, R: Rng>(

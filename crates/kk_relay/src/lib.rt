@@ -1,7 +1,6 @@
 //! A relay: it takes the data frames of a gate, and sends random combinations of the rows of their generations.
 #![tactic(auto)]
 
-mod asking;
 mod basis;
 mod emission;
 pub mod laws;

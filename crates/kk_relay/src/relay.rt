@@ -2,26 +2,26 @@
 ghost use Rattle.std.specs.Prelude.{◌≡◌, ◌↔◌, ◌+◌, ◌*◌, ◌<◌, ◌≤◌, ◌^◌, ℕ, List, All, Some, Err, IfOk, IfSome, IsSome, OnOk, OnErr, [], ◌∷◌, ◌++◌, length, slice_index_or, slice_set, sum_by};
 ghost use Rattle.rand_core.specs.Stream.{Stream};
 ghost use Rattle.kk_rows.specs.Rows.{numbers};
-ghost use Rattle.kk_outside.specs.Causes.{HasCause};
+ghost use Rattle.kk_outside.specs.Causes.{HasCause, RoseWhere};
 ghost use Rattle.kk_outside.specs.Change.{change};
 ghost use Rattle.kk_outside.specs.Gate.{events_told};
-ghost use Rattle.kk_outside.specs.Outlet.{OutletTold, append_datagrams};
+ghost use Rattle.kk_outside.specs.Outlet.{OutletTold, IsCutShort, append_datagrams};
 ghost use Rattle.kk_code.specs.Ticket.{generations};
 ghost use Rattle.kk_frame.specs.declared.datagram.TheConstants.{MAX_DATAGRAM_FRAMES};
 ghost use Rattle.kk_frame.specs.declared.frame.TheConstants.{FRAME_BYTES};
+ghost use Rattle.kk_frame.specs.Asking.{AsksUpToStop, StopsThere, frames_of};
 ghost use Rattle.kk_frame.specs.Events.{taken, counts};
 ghost use Rattle.kk_frame.specs.Frame.{Vector, IsFrame};
-ghost use Rattle.kk_relay.specs.Progress.{HasRelayed, BreaksOff, EndsShort, IsCutShort, RoseWhere, AsksUpToStop, StopsThere, frames_of};
-ghost use Rattle.kk_relay.specs.Relaying.{is_failure, relayed, relay_list};
+ghost use Rattle.kk_relay.specs.Progress.{HasRelayed, BreaksOff, EndsShort};
+ghost use Rattle.kk_relay.specs.Relaying.{relayed, relay_list};
 ghost use Rattle.kk_relay.specs.RelayState.{no_rows, with_row, relay_after, rank};
 ghost use Rattle.kk_outside.specs.Generator.{after_words, word_at};
 
-use crate::asking::next_frames;
 use crate::basis::Basis;
-use crate::emission::{send_combinations, send_frame};
+use crate::emission::send_combinations;
 use crate::{RelayFault, Relayed};
 use kk_code::Ticket;
-use kk_frame::{Batch, Ended, Frame, Intake, Limits};
+use kk_frame::{Batch, Ended, Frame, Intake, Limits, send_frame};
 use kk_outside::{Alloc, Failed, GATE_BYTES, Gate, Outlet};
 use kk_rows::Row;
 use rand_core::Rng;
@@ -141,14 +141,14 @@ impl Relay {
         let mut buf = [0; GATE_BYTES];
         let mut sent = 0;
         while intake.runs() {
-            let frames = next_frames(gate, &mut intake, &mut buf, ticket);
+            let frames = intake.ask(gate, &mut buf, ticket);
             let Ok(more) = self.relay_frames(&frames, rate, ticket, outlet, rng) else {
                 return Err(RelayFault::Outlet);
             };
             sent += more;
         }
         let counts = intake.counts();
-        if has_failed(counts.ended) {
+        if counts.ended.is_some_and(Ended::is_fault) {
             return Err(RelayFault::Gate);
         }
         let Ok(()) = send_frame(&Frame::End, ticket, outlet) else {
@@ -248,16 +248,5 @@ impl Relay {
             sent += u64::from(self.relay_frame(frame, rate, ticket, outlet, rng)?);
         }
         Ok(sent)
-    }
-}
-
-/// Whether the gate failed that ended so.
-fn has_failed(ended: Option<Ended>) -> bool
-    ensures { result ≡ is_failure ended }
-{
-    match ended {
-        Some(Ended::End) | Some(Ended::Idle) | Some(Ended::Most) | Some(Ended::Over) | None =>
-            false,
-        Some(Ended::Fault) => true,
     }
 }

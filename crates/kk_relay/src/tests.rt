@@ -1,5 +1,5 @@
 //! Relays under the ticket of a file of one byte.
-ghost use Rattle.std.specs.Prelude.{◌≡◌, ◌+◌, ◌∷◌, [], All, ℕ, min, IfOk, IfSome};
+ghost use Rattle.std.specs.Prelude.{◌≡◌, ◌+◌, ◌≤◌, ℕ, length, min, IfOk, IfSome};
 ghost use Rattle.rand_core.specs.Steps.{stream_of, steps_u64_low};
 ghost use Rattle.kk_code.specs.Ticket.{generations};
 ghost use Rattle.kk_outside.specs.Change.{change};
@@ -112,69 +112,128 @@ fn two_rows(alloc: Global, last: Event) -> Result<MemoryGate, Fail>
     Ok(MemoryGate::new(events))
 }
 
+/// How two rows are relayed: which sends fail, the first word, and how many combinations are sent for a data frame.
+#[derive(Clone, Copy, Drop)]
+struct Setting<'a> {
+    fails: &'a [u64],
+    word: u64,
+    rate: u32,
+}
+
+/// One combination for each data frame, and no send that fails.
+const PLAIN: Setting<'static> = Setting {
+    fails: &[],
+    word: 1,
+    rate: 1,
+};
+
+/// What a relaying told, what was sent, and what the relay holds.
+#[derive(Drop)]
+struct Outcome {
+    told: Result<Relayed, RelayFault>,
+    outlet: MemoryOutlet,
+    relay: Relay,
+    next_word: u64,
+}
+
+/// Relays the rows 13 and 17, and then the last event.
+fn relay_rows(
+    rt: &impl Abort,
+    alloc: Global,
+    last: Event,
+    setting: &Setting,
+) -> Result<Outcome, Fail>
+    requires last { FitsGate last }
+    requires rate { setting.now.rate ≤ 16 }
+    ensures { IfOk result (λ o. length o.relay ≡ 3) }
+{
+    let ticket = one_byte(rt)?;
+    let mut gate = two_rows(alloc, last)?;
+    let mut outlet = MemoryOutlet::new(alloc, 100, setting.fails.to_vec(alloc)?)?;
+    let mut rng = Words(setting.word);
+    let mut relay = Relay::new(alloc, &ticket)?;
+    let told = relay.relay_all(
+        &ticket,
+        &mut gate,
+        &mut outlet,
+        &mut rng,
+        setting.rate,
+        &LIMITS,
+    );
+    Ok(Outcome {
+        told,
+        outlet,
+        relay,
+        next_word: rng.next_u64(),
+    })
+}
+
+/// Whether exactly these kinds and rows of generation 0 were sent, each as a datagram of its own.
+fn has_sent(outlet: &MemoryOutlet, frames: &[(u8, u8)]) -> bool {
+    if outlet.sent() != frames.len() {
+        return false;
+    }
+    for (i, (kind, row)) in frames.iter().enumerate() {
+        if outlet.datagram(i) != frame(*kind, 0, *row).as_slice() {
+            return false;
+        }
+    }
+    true
+}
+
+/// Whether the relay told this end, so many innovative rows, and so many data frames that were sent, of two that came.
+fn has_told(told: &Result<Relayed, RelayFault>, ended: Ended, innovative: u64, sent: u64) -> bool {
+    match told {
+        Ok(told) => {
+            told.gate.ended == Some(ended)
+                && told.gate.frames == 2
+                && told.innovative == innovative
+                && told.sent == sent
+        }
+        Err(_) => false,
+    }
+}
+
 #[test]
 fn two_rows_and_the_end(rt: HostRuntime) -> Result<(), Fail> {
     let alloc = rt.alloc();
-    let ticket = one_byte(&rt)?;
-    let mut gate = two_rows(alloc, datagram(alloc, 1, 0)?)?;
-    let mut outlet = MemoryOutlet::new(alloc, 100, Vec::new(alloc))?;
-    let mut relay = Relay::new(alloc, &ticket)?;
-    let relayed = relay.relay_all(&ticket, &mut gate, &mut outlet, &mut Words(1), 1, &LIMITS)?;
-    assert_eq!(rt; relayed.gate.ended, Some(Ended::End));
-    assert_eq!(rt; relayed.gate.frames, 2);
-    assert_eq!(rt; relayed.innovative, 2);
-    assert_eq!(rt; relayed.sent, 2);
-    assert_eq!(rt; outlet.sent(), 3);
-    assert_eq!(rt; outlet.datagram(0), frame(0, 0, 13).as_slice());
-    assert_eq!(rt; outlet.datagram(1), frame(0, 0, 28).as_slice());
-    assert_eq!(rt; outlet.datagram(2), frame(1, 0, 0).as_slice());
-    assert_eq!(rt; relay.rows(0), [Row(13), Row(17)].as_slice());
-    assert_eq!(rt; relay.rows(1).len(), 0);
+    let outcome = relay_rows(&rt, alloc, datagram(alloc, 1, 0)?, &PLAIN)?;
+    assert!(rt; has_told(&outcome.told, Ended::End, 2, 2));
+    assert!(rt; has_sent(&outcome.outlet, &[(0, 13), (0, 28), (1, 0)]));
+    assert_eq!(rt; outcome.relay.rows(0), [Row(13), Row(17)].as_slice());
+    assert_eq!(rt; outcome.relay.rows(1).len(), 0);
     Ok(())
 }
 
 #[test]
 fn no_end_after_a_fault(rt: HostRuntime) -> Result<(), Fail> {
-    let alloc = rt.alloc();
-    let ticket = one_byte(&rt)?;
-    let mut gate = two_rows(alloc, Event::Fault)?;
-    let mut outlet = MemoryOutlet::new(alloc, 100, Vec::new(alloc))?;
-    let mut relay = Relay::new(alloc, &ticket)?;
-    let told = relay.relay_all(&ticket, &mut gate, &mut outlet, &mut Words(1), 1, &LIMITS);
-    assert_eq!(rt; told, Err(RelayFault::Gate));
-    assert_eq!(rt; outlet.sent(), 2);
-    assert_eq!(rt; relay.rows(0), [Row(13), Row(17)].as_slice());
+    let outcome = relay_rows(&rt, rt.alloc(), Event::Fault, &PLAIN)?;
+    assert_eq!(rt; outcome.told, Err(RelayFault::Gate));
+    assert!(rt; has_sent(&outcome.outlet, &[(0, 13), (0, 28)]));
+    assert_eq!(rt; outcome.relay.rows(0), [Row(13), Row(17)].as_slice());
     Ok(())
 }
 
 #[test]
 fn nothing_is_sent_after_a_send_that_failed(rt: HostRuntime) -> Result<(), Fail> {
     let alloc = rt.alloc();
-    let ticket = one_byte(&rt)?;
-    let mut gate = two_rows(alloc, datagram(alloc, 1, 0)?)?;
-    let mut outlet = MemoryOutlet::new(alloc, 100, [1u64].to_vec(alloc)?)?;
-    let mut relay = Relay::new(alloc, &ticket)?;
-    let told = relay.relay_all(&ticket, &mut gate, &mut outlet, &mut Words(1), 1, &LIMITS);
-    assert_eq!(rt; told, Err(RelayFault::Outlet));
-    assert_eq!(rt; outlet.sent(), 1);
-    assert_eq!(rt; relay.rows(0), [Row(13), Row(17)].as_slice());
+    let setting = Setting {
+        fails: &[1],
+        ..PLAIN
+    };
+    let outcome = relay_rows(&rt, alloc, datagram(alloc, 1, 0)?, &setting)?;
+    assert_eq!(rt; outcome.told, Err(RelayFault::Outlet));
+    assert!(rt; has_sent(&outcome.outlet, &[(0, 13)]));
+    assert_eq!(rt; outcome.relay.rows(0), [Row(13), Row(17)].as_slice());
     Ok(())
 }
 
 #[test]
 fn a_rate_of_0_sends_the_end_alone(rt: HostRuntime) -> Result<(), Fail> {
-    let alloc = rt.alloc();
-    let ticket = one_byte(&rt)?;
-    let mut gate = two_rows(alloc, Event::Quiet)?;
-    let mut outlet = MemoryOutlet::new(alloc, 100, Vec::new(alloc))?;
-    let mut rng = Words(1);
-    let mut relay = Relay::new(alloc, &ticket)?;
-    let relayed = relay.relay_all(&ticket, &mut gate, &mut outlet, &mut rng, 0, &LIMITS)?;
-    assert_eq!(rt; relayed.gate.ended, Some(Ended::Over));
-    assert_eq!(rt; relayed.sent, 0);
-    assert_eq!(rt; outlet.sent(), 1);
-    assert_eq!(rt; outlet.datagram(0), frame(1, 0, 0).as_slice());
-    assert_eq!(rt; rng.next_u64(), 1);
+    let outcome = relay_rows(&rt, rt.alloc(), Event::Quiet, &Setting { rate: 0, ..PLAIN })?;
+    assert!(rt; has_told(&outcome.told, Ended::Over, 2, 0));
+    assert!(rt; has_sent(&outcome.outlet, &[(1, 0)]));
+    assert_eq!(rt; outcome.next_word, 1);
     Ok(())
 }
 
@@ -184,13 +243,8 @@ fn a_combination_that_is_the_row_0_is_sent(rt: HostRuntime) -> Result<(), Fail> 
     let ticket = one_byte(&rt)?;
     let mut gate = two_rows(alloc, datagram(alloc, 1, 0)?)?;
     let mut outlet = MemoryOutlet::new(alloc, 100, Vec::new(alloc))?;
-    let mut rng = Words(0);
-    assert_eq!(rt;
-        relay_gate(alloc, &ticket, &mut gate, &mut outlet, &mut rng),
-        Some(2)
-    );
-    assert_eq!(rt; outlet.sent(), 3);
-    assert_eq!(rt; outlet.datagram(0), frame(0, 0, 0).as_slice());
-    assert_eq!(rt; outlet.datagram(1), frame(0, 0, 17).as_slice());
+    let sent = relay_gate(alloc, &ticket, &mut gate, &mut outlet, &mut Words(0));
+    assert_eq!(rt; sent, Some(2));
+    assert!(rt; has_sent(&outlet, &[(0, 0), (0, 17), (1, 0)]));
     Ok(())
 }

@@ -12,7 +12,7 @@ use Rattle.kk_rows.specs.Span.{in_span, innovative, dimension, IsIndependent}
 use Rattle.kk_rows.specs.AdditiveMap.{IsAdditive, unit_rows}
 use Rattle.kk_rows.specs.Laws.{AdditiveMapsTakeSpansToSpans, UnitRowsAreABasis}
 use Rattle.kk_rows.proofs.Spans.{in_span-least, in_span-zero, in_span-xor, in_span-head, in_span_skip, in_span-each, in_span-lt, in_span-push_skip, in_span-push_use}
-use Rattle.kk_rows.proofs.Dimensions.{innovative_behind-nil, dimension-le_within, dimension-le_length, in_span_innovative}
+use Rattle.kk_rows.proofs.Dimensions.{innovative_after-nil, dimension-le_within, dimension-le_length, in_span_innovative}
 use Rattle.kk_rows.proofs.Independence.{independent-push}
 
 -- 0 goes to 0, since it is twice itself
@@ -106,7 +106,7 @@ unit_rows-below (suc n) =
 
 -- none is in the span of those before it
 pub unit_rows-independent : (n : ℕ) → IsIndependent (unit_rows n)
-unit_rows-independent zero = ap length (innovative_behind-nil [])
+unit_rows-independent zero = ap length (innovative_after-nil [])
 unit_rows-independent (suc n) =
     subst IsIndependent (sym (unit_rows-more n))
     (independent-push (unit_rows n) (2 ^ n) (unit_rows-independent n)

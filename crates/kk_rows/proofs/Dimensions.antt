@@ -6,46 +6,46 @@ use Rattle.std.proofs.Math.Nat.{two-pow-succ}
 use Rattle.std.proofs.lemmas.Bool.{cases_lt, cases_Bool, false_from_ne_true, or_left, or_right, or_cases, both_ways}
 use Rattle.std.proofs.lemmas.List.{append-nil, append_assoc}
 use Rattle.std.proofs.lemmas.List.Elements.{All-nil, All-cons, All-head, All-tail}
-use Rattle.kk_rows.specs.Span.{in_span, innovative, innovative_behind, dimension}
+use Rattle.kk_rows.specs.Span.{in_span, innovative, innovative_after, dimension}
 use Rattle.kk_rows.proofs.Sums.{xor_twice_left}
 use Rattle.kk_rows.proofs.Spans.{same_bool, in_span-xor, in_span-xor_back, in_span-push_cases, in_span-push_skip, in_span-push_use, in_span-append_within}
 use Rattle.kk_rows.proofs.Counting.{passing, passing_same, passing-le, passing-le_all, passing-or, passing-zero, passing-xor}
 
 -- ---- one row after the others
 
-pub innovative_behind_inside : (before : List ℕ) (r : ℕ) (rows : List ℕ) → in_span before r ≡ true → innovative_behind before (r ∷ rows) ≡ innovative_behind (before ++ r ∷ []) rows
-unfolding innovative_behind
-innovative_behind_inside before r rows h = rw h refl
+pub innovative_after_inside : (before : List ℕ) (r : ℕ) (rows : List ℕ) → in_span before r ≡ true → innovative_after before (r ∷ rows) ≡ innovative_after (before ++ r ∷ []) rows
+unfolding innovative_after
+innovative_after_inside before r rows h = rw h refl
 
-pub innovative_behind_outside : (before : List ℕ) (r : ℕ) (rows : List ℕ) → in_span before r ≡ false → innovative_behind before (r ∷ rows) ≡ r ∷ innovative_behind (before ++ r ∷ []) rows
-unfolding innovative_behind
-innovative_behind_outside before r rows h = rw h refl
+pub innovative_after_outside : (before : List ℕ) (r : ℕ) (rows : List ℕ) → in_span before r ≡ false → innovative_after before (r ∷ rows) ≡ r ∷ innovative_after (before ++ r ∷ []) rows
+unfolding innovative_after
+innovative_after_outside before r rows h = rw h refl
 
-pub innovative_behind-nil : (before : List ℕ) → innovative_behind before [] ≡ []
-unfolding innovative_behind
-innovative_behind-nil before = refl
+pub innovative_after-nil : (before : List ℕ) → innovative_after before [] ≡ []
+unfolding innovative_after
+innovative_after-nil before = refl
 
-pub innovative_behind-append : (before xs ys : List ℕ) → innovative_behind before (xs ++ ys) ≡ innovative_behind before xs ++ innovative_behind (before ++ xs) ys
-innovative_behind-append before [] ys =
-    rw (innovative_behind-nil before, append-nil before) refl
-innovative_behind-append before (x ∷ xs) ys =
-    let rest = innovative_behind-append (before ++ x ∷ []) xs ys in
+pub innovative_after-append : (before xs ys : List ℕ) → innovative_after before (xs ++ ys) ≡ innovative_after before xs ++ innovative_after (before ++ xs) ys
+innovative_after-append before [] ys =
+    rw (innovative_after-nil before, append-nil before) refl
+innovative_after-append before (x ∷ xs) ys =
+    let rest = innovative_after-append (before ++ x ∷ []) xs ys in
     let same : (before ++ x ∷ []) ++ xs ≡ before ++ (x ∷ xs) = append_assoc before (x ∷ []) xs in
-    let joined = rest ∙ ap (λ b. innovative_behind (before ++ x ∷ []) xs ++ innovative_behind b ys) same in
+    let joined = rest ∙ ap (λ b. innovative_after (before ++ x ∷ []) xs ++ innovative_after b ys) same in
     elim (cases_Bool (in_span before x)) [
-      | inl inside ↦ innovative_behind_inside before x (xs ++ ys) inside ∙ joined ∙ ap (λ l. l ++ innovative_behind (before ++ x ∷ xs) ys) (sym (innovative_behind_inside before x xs inside))
-      | inr outside ↦ innovative_behind_outside before x (xs ++ ys) outside ∙ ap (λ l. x ∷ l) joined ∙ ap (λ l. l ++ innovative_behind (before ++ x ∷ xs) ys) (sym (innovative_behind_outside before x xs outside))
+      | inl inside ↦ innovative_after_inside before x (xs ++ ys) inside ∙ joined ∙ ap (λ l. l ++ innovative_after (before ++ x ∷ xs) ys) (sym (innovative_after_inside before x xs inside))
+      | inr outside ↦ innovative_after_outside before x (xs ++ ys) outside ∙ ap (λ l. x ∷ l) joined ∙ ap (λ l. l ++ innovative_after (before ++ x ∷ xs) ys) (sym (innovative_after_outside before x xs outside))
     ]
 
 -- a row in the span of those before it is not innovative
 pub innovative-push_inside : (rows : List ℕ) (v : ℕ) → in_span rows v ≡ true → innovative (rows ++ v ∷ []) ≡ innovative rows
 innovative-push_inside rows v h =
-    innovative_behind-append [] rows (v ∷ []) ∙ ap (λ l. innovative rows ++ l) (innovative_behind_inside rows v [] h ∙ innovative_behind-nil (rows ++ v ∷ [])) ∙ append-nil (innovative rows)
+    innovative_after-append [] rows (v ∷ []) ∙ ap (λ l. innovative rows ++ l) (innovative_after_inside rows v [] h ∙ innovative_after-nil (rows ++ v ∷ [])) ∙ append-nil (innovative rows)
 
 -- a row outside the span of those before it is innovative
 pub innovative-push_outside : (rows : List ℕ) (v : ℕ) → in_span rows v ≡ false → innovative (rows ++ v ∷ []) ≡ innovative rows ++ v ∷ []
 innovative-push_outside rows v h =
-    innovative_behind-append [] rows (v ∷ []) ∙ ap (λ l. innovative rows ++ l) (innovative_behind_outside rows v [] h ∙ ap (λ l. v ∷ l) (innovative_behind-nil (rows ++ v ∷ [])))
+    innovative_after-append [] rows (v ∷ []) ∙ ap (λ l. innovative rows ++ l) (innovative_after_outside rows v [] h ∙ ap (λ l. v ∷ l) (innovative_after-nil (rows ++ v ∷ [])))
 
 pub dimension-push_inside : (rows : List ℕ) (v : ℕ) → in_span rows v ≡ true → dimension (rows ++ v ∷ []) ≡ dimension rows
 dimension-push_inside rows v h = ap length (innovative-push_inside rows v h)
@@ -77,27 +77,27 @@ passing-push_outside n rows v below h =
 doubled_power : (c d : ℕ) → (c + c) * 2 ^ d ≡ c * 2 ^ suc d
 doubled_power c d = rw two-pow-succ (omega arith)
 
-passing_behind : (n : ℕ) (before rows : List ℕ) → All (λ r. r < 2 ^ n) rows → passing n (in_span (before ++ rows)) ≡ passing n (in_span before) * 2 ^ length (innovative_behind before rows)
-passing_behind n before [] each = rw (append-nil before, innovative_behind-nil before) (omega arith)
-passing_behind n before (r ∷ rows) each =
+passing_after : (n : ℕ) (before rows : List ℕ) → All (λ r. r < 2 ^ n) rows → passing n (in_span (before ++ rows)) ≡ passing n (in_span before) * 2 ^ length (innovative_after before rows)
+passing_after n before [] each = rw (append-nil before, innovative_after-nil before) (omega arith)
+passing_after n before (r ∷ rows) each =
     let rest = All-tail (λ r. r < 2 ^ n) r rows each in
     let below = All-head (λ r. r < 2 ^ n) r rows each in
     let same : (before ++ r ∷ []) ++ rows ≡ before ++ (r ∷ rows) = append_assoc before (r ∷ []) rows in
-    let by_rest = ap (λ l. passing n (in_span l)) (sym same) ∙ passing_behind n (before ++ r ∷ []) rows rest in
-    let d = length (innovative_behind (before ++ r ∷ []) rows) in
+    let by_rest = ap (λ l. passing n (in_span l)) (sym same) ∙ passing_after n (before ++ r ∷ []) rows rest in
+    let d = length (innovative_after (before ++ r ∷ []) rows) in
     let c = passing n (in_span before) in
     elim (cases_Bool (in_span before r)) [
-      | inl inside ↦ by_rest ∙ ap₂ (λ c d. c * 2 ^ d) (passing-push_inside n before r inside) (ap length (sym (innovative_behind_inside before r rows inside)))
+      | inl inside ↦ by_rest ∙ ap₂ (λ c d. c * 2 ^ d) (passing-push_inside n before r inside) (ap length (sym (innovative_after_inside before r rows inside)))
       | inr outside ↦
           let doubled = doubled_power c d in
-          by_rest ∙ ap (λ c. c * 2 ^ d) (passing-push_outside n before r below outside) ∙ doubled ∙ ap (λ l. c * 2 ^ length l) (sym (innovative_behind_outside before r rows outside))
+          by_rest ∙ ap (λ c. c * 2 ^ d) (passing-push_outside n before r below outside) ∙ doubled ∙ ap (λ l. c * 2 ^ length l) (sym (innovative_after_outside before r rows outside))
     ]
 
 -- a span of rows below 2 ^ n has 2 ^ dimension members, all below 2 ^ n
 pub passing-in_span : (n : ℕ) (rows : List ℕ) → All (λ r. r < 2 ^ n) rows → passing n (in_span rows) ≡ 2 ^ dimension rows
 unfolding in_span
 passing-in_span n rows each =
-    passing_behind n [] rows each ∙ ap (λ c. c * 2 ^ dimension rows) (passing-zero n) ∙ omega arith
+    passing_after n [] rows each ∙ ap (λ c. c * 2 ^ dimension rows) (passing-zero n) ∙ omega arith
 
 -- ---- the dimension depends on the span alone
 
@@ -139,18 +139,18 @@ pub dimension-le_width : (n : ℕ) (rows : List ℕ) → All (λ r. r < 2 ^ n) r
 dimension-le_width n rows each =
     le_from_powers _ _ (omega (arith, passing-in_span n rows each, passing-le_all n (in_span rows)))
 
-pub length_behind_le : (before rows : List ℕ) → length (innovative_behind before rows) ≤ length rows
-length_behind_le before [] = rw (innovative_behind-nil before) (omega arith)
-length_behind_le before (r ∷ rows) =
-    let rest = length_behind_le (before ++ r ∷ []) rows in
+pub length_after_le : (before rows : List ℕ) → length (innovative_after before rows) ≤ length rows
+length_after_le before [] = rw (innovative_after-nil before) (omega arith)
+length_after_le before (r ∷ rows) =
+    let rest = length_after_le (before ++ r ∷ []) rows in
     elim (cases_Bool (in_span before r)) [
-      | inl inside ↦ rw (innovative_behind_inside before r rows inside) (omega arith)
-      | inr outside ↦ rw (innovative_behind_outside before r rows outside) (omega arith)
+      | inl inside ↦ rw (innovative_after_inside before r rows inside) (omega arith)
+      | inr outside ↦ rw (innovative_after_outside before r rows outside) (omega arith)
     ]
 
 -- so many rows have at most that dimension
 pub dimension-le_length : (rows : List ℕ) → dimension rows ≤ length rows
-dimension-le_length rows = length_behind_le [] rows
+dimension-le_length rows = length_after_le [] rows
 
 -- a span inside another of no larger dimension is all of it
 pub in_span-all_from_dimension : (a b : List ℕ) → ((x : ℕ) → in_span a x ≡ true → in_span b x ≡ true) → dimension b ≤ dimension a → (x : ℕ) → in_span b x ≡ true → in_span a x ≡ true
@@ -176,35 +176,35 @@ in_span_again before xs r h x = same_bool _ _
     ]) (λ y k. k) x)
     (in_span-append_within before (before ++ r ∷ []) xs xs (in_span-push_skip before r) (λ y k. k) x)
 
-in_span_behind : (before rows : List ℕ) (x : ℕ) → in_span (before ++ innovative_behind before rows) x ≡ in_span (before ++ rows) x
-in_span_behind before [] x = rw (innovative_behind-nil before) refl
-in_span_behind before (r ∷ rows) x =
-    let rest = in_span_behind (before ++ r ∷ []) rows x in
-    let news = innovative_behind (before ++ r ∷ []) rows in
+in_span_after : (before rows : List ℕ) (x : ℕ) → in_span (before ++ innovative_after before rows) x ≡ in_span (before ++ rows) x
+in_span_after before [] x = rw (innovative_after-nil before) refl
+in_span_after before (r ∷ rows) x =
+    let rest = in_span_after (before ++ r ∷ []) rows x in
+    let news = innovative_after (before ++ r ∷ []) rows in
     let same : (before ++ r ∷ []) ++ rows ≡ before ++ (r ∷ rows) = append_assoc before (r ∷ []) rows in
     let joined = rest ∙ ap (λ l. in_span l x) same in
     elim (cases_Bool (in_span before r)) [
-      | inl inside ↦ ap (λ l. in_span (before ++ l) x) (innovative_behind_inside before r rows inside) ∙ sym (in_span_again before news r inside x) ∙ joined
-      | inr outside ↦ ap (λ l. in_span (before ++ l) x) (innovative_behind_outside before r rows outside) ∙ ap (λ l. in_span l x) (sym (append_assoc before (r ∷ []) news)) ∙ joined
+      | inl inside ↦ ap (λ l. in_span (before ++ l) x) (innovative_after_inside before r rows inside) ∙ sym (in_span_again before news r inside x) ∙ joined
+      | inr outside ↦ ap (λ l. in_span (before ++ l) x) (innovative_after_outside before r rows outside) ∙ ap (λ l. in_span l x) (sym (append_assoc before (r ∷ []) news)) ∙ joined
     ]
 
 -- the innovative rows span what all the rows span
 pub in_span_innovative : (rows : List ℕ) (x : ℕ) → in_span (innovative rows) x ≡ in_span rows x
-in_span_innovative rows x = in_span_behind [] rows x
+in_span_innovative rows x = in_span_after [] rows x
 
 -- and are independent
 pub innovative_is_independent : (rows : List ℕ) → dimension (innovative rows) ≡ length (innovative rows)
 innovative_is_independent rows = dimension-same_span (innovative rows) rows (in_span_innovative rows)
 
-All-innovative_behind : (P : ℕ → Type 0) (before rows : List ℕ) → All P rows → All P (innovative_behind before rows)
-All-innovative_behind P before [] each = rw (innovative_behind-nil before) each
-All-innovative_behind P before (r ∷ rows) each =
-    let rest = All-innovative_behind P (before ++ r ∷ []) rows (All-tail P r rows each) in
+All-innovative_after : (P : ℕ → Type 0) (before rows : List ℕ) → All P rows → All P (innovative_after before rows)
+All-innovative_after P before [] each = rw (innovative_after-nil before) each
+All-innovative_after P before (r ∷ rows) each =
+    let rest = All-innovative_after P (before ++ r ∷ []) rows (All-tail P r rows each) in
     elim (cases_Bool (in_span before r)) [
-      | inl inside ↦ rw (innovative_behind_inside before r rows inside) rest
-      | inr outside ↦ rw (innovative_behind_outside before r rows outside) (All-cons P r _ (All-head P r rows each) rest)
+      | inl inside ↦ rw (innovative_after_inside before r rows inside) rest
+      | inr outside ↦ rw (innovative_after_outside before r rows outside) (All-cons P r _ (All-head P r rows each) rest)
     ]
 
 -- what holds of each row holds of each innovative row
 pub All-innovative : (P : ℕ → Type 0) (rows : List ℕ) → All P rows → All P (innovative rows)
-All-innovative P rows each = All-innovative_behind P [] rows each
+All-innovative P rows each = All-innovative_after P [] rows each

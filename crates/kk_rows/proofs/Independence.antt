@@ -3,9 +3,9 @@ use Rattle.std.proofs.Common.{◌≡◌, ℕ, ◌≤◌, true, false, List, [], 
 use Rattle.std.specs.Prelude.{All}
 use Rattle.std.proofs.lemmas.Bool.{cases_Bool, both_ways}
 use Rattle.std.proofs.lemmas.Nat.{xor_comm}
-use Rattle.kk_rows.specs.Span.{in_span, innovative, innovative_behind, dimension, IsIndependent}
+use Rattle.kk_rows.specs.Span.{in_span, innovative, innovative_after, dimension, IsIndependent}
 use Rattle.kk_rows.proofs.Spans.{in_span-push_cases, in_span-push_use, in_span-within}
-use Rattle.kk_rows.proofs.Dimensions.{innovative_behind-nil, innovative_behind_inside, innovative_behind_outside, innovative_behind-append, length_behind_le, dimension-push_outside, dimension-le_within, dimension-le_length, in_span_innovative, innovative_is_independent}
+use Rattle.kk_rows.proofs.Dimensions.{innovative_after-nil, innovative_after_inside, innovative_after_outside, innovative_after-append, length_after_le, dimension-push_outside, dimension-le_within, dimension-le_length, in_span_innovative, innovative_is_independent}
 
 -- a row that the addition of v brings in brings in v
 pub in_span-exchange : (rows : List ℕ) (v w : ℕ) → in_span (rows ++ v ∷ []) w ≡ true → in_span rows w ≡ false → in_span (rows ++ w ∷ []) v ≡ true
@@ -28,35 +28,35 @@ pub independent-push : (rows : List ℕ) (v : ℕ) → IsIndependent rows → in
 independent-push rows v h outside =
     omega (arith, dimension-push_outside rows v outside, h, length-append rows (v ∷ []))
 
-all_behind : (before rows : List ℕ) → length (innovative_behind before rows) ≡ length rows → innovative_behind before rows ≡ rows
-all_behind before [] h = innovative_behind-nil before
-all_behind before (r ∷ rows) h = elim (cases_Bool (in_span before r)) [
+all_after : (before rows : List ℕ) → length (innovative_after before rows) ≡ length rows → innovative_after before rows ≡ rows
+all_after before [] h = innovative_after-nil before
+all_after before (r ∷ rows) h = elim (cases_Bool (in_span before r)) [
   | inl inside ↦
-      let fewer = length_behind_le (before ++ r ∷ []) rows in
-      let e = ap length (innovative_behind_inside before r rows inside) in
+      let fewer = length_after_le (before ++ r ∷ []) rows in
+      let e = ap length (innovative_after_inside before r rows inside) in
       absurd (omega arith)
   | inr outside ↦
-      let e = ap length (innovative_behind_outside before r rows outside) in
-      innovative_behind_outside before r rows outside ∙ ap (λ l. r ∷ l) (all_behind (before ++ r ∷ []) rows (omega arith))
+      let e = ap length (innovative_after_outside before r rows outside) in
+      innovative_after_outside before r rows outside ∙ ap (λ l. r ∷ l) (all_after (before ++ r ∷ []) rows (omega arith))
 ]
 
 -- each of some independent rows is innovative
 pub innovative_of_independent : (rows : List ℕ) → IsIndependent rows → innovative rows ≡ rows
-innovative_of_independent rows h = all_behind [] rows h
+innovative_of_independent rows h = all_after [] rows h
 
 -- the rows before some of a list of independent rows are independent
 pub independent-front : (front back : List ℕ) → IsIndependent (front ++ back) → IsIndependent front
 independent-front front back h =
-    let parts = ap length (innovative_behind-append [] front back) in
-    omega (arith, h, parts, length-append (innovative front) (innovative_behind front back), length-append front back, length_behind_le [] front, length_behind_le front back)
+    let parts = ap length (innovative_after-append [] front back) in
+    omega (arith, h, parts, length-append (innovative front) (innovative_after front back), length-append front back, length_after_le [] front, length_after_le front back)
 
--- independent rows, and those of more rows that are innovative behind them, are a basis of the span of both
-pub innovative-extends : (rows more : List ℕ) → IsIndependent rows → innovative (rows ++ more) ≡ rows ++ innovative_behind rows more
+-- independent rows, and those of more rows that are innovative after them, are a basis of the span of both
+pub innovative-extends : (rows more : List ℕ) → IsIndependent rows → innovative (rows ++ more) ≡ rows ++ innovative_after rows more
 innovative-extends rows more h =
-    innovative_behind-append [] rows more ∙ ap (λ l. l ++ innovative_behind rows more) (innovative_of_independent rows h)
+    innovative_after-append [] rows more ∙ ap (λ l. l ++ innovative_after rows more) (innovative_of_independent rows h)
 
 -- the same as independence and span
-pub independent-extended : (rows more : List ℕ) → IsIndependent rows → IsIndependent (rows ++ innovative_behind rows more) × ((x : ℕ) → in_span (rows ++ innovative_behind rows more) x ≡ in_span (rows ++ more) x)
+pub independent-extended : (rows more : List ℕ) → IsIndependent rows → IsIndependent (rows ++ innovative_after rows more) × ((x : ℕ) → in_span (rows ++ innovative_after rows more) x ≡ in_span (rows ++ more) x)
 independent-extended rows more h =
     let e = innovative-extends rows more h in
     (subst IsIndependent e (innovative_is_independent (rows ++ more)), λ x. ap (λ l. in_span l x) (sym e) ∙ in_span_innovative (rows ++ more) x)

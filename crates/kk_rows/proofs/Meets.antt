@@ -8,7 +8,7 @@ use Rattle.kk_rows.specs.Distance.{sum_dimension, meet_dimension}
 use Rattle.kk_rows.specs.Laws.{IsBasisOfMeet}
 use Rattle.kk_rows.proofs.Sums.{xor_twice_left, xor_shared}
 use Rattle.kk_rows.proofs.Spans.{same_bool, in_span-nil, in_span-zero, in_span-xor, in_span-xor_back, in_span-push_cases, in_span-push_skip, in_span-push_use, in_span-append_parts, in_span-append_left, in_span-append_right}
-use Rattle.kk_rows.proofs.Dimensions.{innovative_behind-nil, dimension-push_inside, dimension-push_outside, dimension-le_within, dimension-same_span}
+use Rattle.kk_rows.proofs.Dimensions.{innovative_after-nil, dimension-push_inside, dimension-push_outside, dimension-le_within, dimension-same_span}
 use Rattle.kk_rows.proofs.Independence.{independent-push}
 
 -- a basis of the meet of the spans of us and vs, with the count of what it takes from the sum of their dimensions
@@ -20,7 +20,7 @@ record Meets (us vs ws : List ℕ) : Type 0 where
 
 meets_nothing : (us : List ℕ) → Meets us [] []
 meets_nothing us =
-    let none = ap length (innovative_behind-nil []) in
+    let none = ap length (innovative_after-nil []) in
     record {
       independent = none;
       in_both = λ x k. (subst (λ y. in_span us y ≡ true) (sym (in_span-nil x k)) (in_span-zero us), k);
@@ -101,15 +101,15 @@ meets_step us vs ws v h = elim (cases_Bool (in_span vs v)) [
   ]
 ]
 
-meets_behind : (us before vs ws : List ℕ) → Meets us before ws → (ws : List ℕ) × Meets us (before ++ vs) ws
-meets_behind us before [] ws h = (ws, subst (λ l. Meets us l ws) (sym (append-nil before)) h)
-meets_behind us before (v ∷ vs) ws h =
+meets_after : (us before vs ws : List ℕ) → Meets us before ws → (ws : List ℕ) × Meets us (before ++ vs) ws
+meets_after us before [] ws h = (ws, subst (λ l. Meets us l ws) (sym (append-nil before)) h)
+meets_after us before (v ∷ vs) ws h =
     let next = meets_step us before ws v h in
-    let rest = meets_behind us (before ++ v ∷ []) vs next.0 next.1 in
+    let rest = meets_after us (before ++ v ∷ []) vs next.0 next.1 in
     (rest.0, subst (λ l. Meets us l rest.0) (append_assoc before (v ∷ []) vs) rest.1)
 
 meets : (us vs : List ℕ) → (ws : List ℕ) × Meets us vs ws
-meets us vs = meets_behind us [] vs [] (meets_nothing us)
+meets us vs = meets_after us [] vs [] (meets_nothing us)
 
 -- ---- what the crates above cite
 

@@ -9,11 +9,11 @@ use Rattle.std.proofs.lemmas.Bool.{cases_lt, cases_order, false_from_ne_true}
 use Rattle.std.proofs.lemmas.List.{append_assoc, get_or-map, length-map}
 use Rattle.std.proofs.lemmas.List.Elements.{All-nil, All-cons, All-head, All-tail, All-append, All-map}
 use Rattle.std.proofs.lemmas.List.Kept.{AllPairs-cons}
-use Rattle.kk_rows.specs.Span.{in_span, innovative_behind, dimension}
+use Rattle.kk_rows.specs.Span.{in_span, innovative_after, dimension}
 use Rattle.kk_rows.specs.Echelon.{IsLeadingBit, IsClearAt, IsClear, LeadsAbove, IsReduced, HasLeads, cleared}
 use Rattle.kk_rows.proofs.Sums.{xor_twice_left, xor_swap}
 use Rattle.kk_rows.proofs.Spans.{same_bool, in_span-zero, in_span_skip, in_span_use, in_span_cases, in_span-nil, in_span-least, in_span-xor, in_span-xor_back, in_span-head, in_span-each, in_span-within, in_span-append_left, in_span-append_right, in_span-append_least, in_span-push_skip, in_span-push_itself}
-use Rattle.kk_rows.proofs.Dimensions.{dimension-le_width, innovative_behind_outside, innovative_behind-nil}
+use Rattle.kk_rows.proofs.Dimensions.{dimension-le_width, innovative_after_outside, innovative_after-nil}
 use Rattle.kk_rows.proofs.Leading.{bit_cases, bit_zero_zero, bit_one_zero, bit_one_one, zero_is_not_one, power_le, leading_bit, leading_bit_is_one, lt-xor, gt-xor}
 
 -- ---- lists
@@ -148,16 +148,16 @@ Reduces-front (b ∷ before) r rows h =
     let apart = All-head (λ s. AreApart b s) r rows parts.1 in
     ((h.0, parts.0, rest.0), All-cons (λ row. IsClearAt row r) b before apart.2 rest.1, rest.2)
 
-length_behind_reduced : (before rows : List ℕ) → Reduces (before ++ rows) → length (innovative_behind before rows) ≡ length rows
-length_behind_reduced before [] h = ap length (innovative_behind-nil before)
-length_behind_reduced before (r ∷ rows) h =
+length_after_reduced : (before rows : List ℕ) → Reduces (before ++ rows) → length (innovative_after before rows) ≡ length rows
+length_after_reduced before [] h = ap length (innovative_after-nil before)
+length_after_reduced before (r ∷ rows) h =
     let front = Reduces-front before r rows h in
     let outside : in_span before r ≡ false = false_from_ne_true _ (λ k. let e = zero_from_clear before front.0 r k front.1 in absurd (omega arith)) in
     let same : before ++ (r ∷ rows) ≡ (before ++ r ∷ []) ++ rows = sym (append_assoc before (r ∷ []) rows) in
-    ap length (innovative_behind_outside before r rows outside) ∙ ap suc (length_behind_reduced (before ++ r ∷ []) rows (subst Reduces same h))
+    ap length (innovative_after_outside before r rows outside) ∙ ap suc (length_after_reduced (before ++ r ∷ []) rows (subst Reduces same h))
 
 pub dimension_reduced : (rows : List ℕ) → IsReduced rows → dimension rows ≡ length rows
-dimension_reduced rows h = length_behind_reduced [] rows (Reduces-from rows h)
+dimension_reduced rows h = length_after_reduced [] rows (Reduces-from rows h)
 
 -- and are at most as many as the bits of the widest
 pub length_reduced-le : (n : ℕ) (rows : List ℕ) → IsReduced rows → All (λ r. r < 2 ^ n) rows → length rows ≤ n

@@ -1,5 +1,5 @@
 -- Lists of rows as the code moves them.
-use Rattle.std.proofs.Common.{◌≡◌, ℕ, zero, suc, ◌+◌, ◌-◌, ◌<◌, ◌≤◌, List, [], ◌∷◌, ◌++◌, length, take, drop, map, get_or, refl, sym, ap, ◌∙◌, subst, arith, false, true, fold, bit_xor, ◌^◌}
+use Rattle.std.proofs.Common.{◌≡◌, ℕ, zero, suc, ◌+◌, ◌-◌, ◌<◌, ◌≤◌, List, [], ◌∷◌, ◌++◌, length, take, drop, get_or, sym, ap, ◌∙◌, subst, arith, false, true, fold, bit_xor, ◌^◌}
 use Rattle.std.specs.Prelude.{All}
 use Rattle.std.proofs.lemmas.List.{append-nil, drop_all, take_all, drop_at, length-take-le, length-drop, get_or-map, map_more, length-map, take-map}
 use Rattle.std.proofs.lemmas.List.Elements.{All-cons, All-push, All-take}
@@ -38,10 +38,6 @@ numbers_each P rows i each h =
 pub numbers_taken_each : (P : ℕ → Type 0) (rows : List Row) (i : ℕ) → All P (numbers rows) → i < length rows → All P (numbers (take i rows) ++ (get_or rows i record { 0 = 0 }).0 ∷ [])
 numbers_taken_each P rows i each h =
     subst (All P) (take-map (λ (row : Row). row.0) (i + 1) rows ∙ numbers-take_more rows i h) (All-take P (i + 1) (numbers rows) each)
-
-pub numbers-map_cleared : (rows : List Row) (lead : ℕ) → numbers (map (λ row. record { 0 = cleared row.0 lead }) rows) ≡ map (λ r. cleared r lead) (numbers rows)
-numbers-map_cleared [] lead = refl
-numbers-map_cleared (row ∷ rows) lead = ap (λ l. cleared row.0 lead ∷ l) (numbers-map_cleared rows lead)
 
 -- ---- what reduced rows leave of v
 

@@ -38,5 +38,6 @@ pub record IsBasisBelow (n : ℕ) : Type 0 where
   pub independent : IsIndependent (unit_rows n)
   pub spans : (v : ℕ) → IsTrue (in_span (unit_rows n) v) ↔ (v < 2 ^ n)
 
+-- the rows with one coordinate 1 are a basis of all rows of their width
 abbrev pub UnitRowsAreABasis : Type 0
 UnitRowsAreABasis = (n : ℕ) → IsBasisBelow n

@@ -7,15 +7,15 @@ in_span [] v = v == 0
 in_span (r ∷ rows) v = in_span rows v || in_span rows (bit_xor v r)
 
 -- the rows that aren't in the span of the rows before them, where `before` stands before them all
-unfoldable pub innovative_behind : List ℕ → List ℕ → List ℕ
-innovative_behind before [] = []
-innovative_behind before (r ∷ rows) =
-    if in_span before r then innovative_behind (before ++ r ∷ []) rows
-    else r ∷ innovative_behind (before ++ r ∷ []) rows
+unfoldable pub innovative_after : List ℕ → List ℕ → List ℕ
+innovative_after before [] = []
+innovative_after before (r ∷ rows) =
+    if in_span before r then innovative_after (before ++ r ∷ []) rows
+    else r ∷ innovative_after (before ++ r ∷ []) rows
 
 -- the rows that aren't in the span of the rows before them, in order
 abbrev pub innovative : List ℕ → List ℕ
-innovative rows = innovative_behind [] rows
+innovative rows = innovative_after [] rows
 
 -- the dimension of the span: how many rows aren't in the span of the rows before them
 abbrev pub dimension : List ℕ → ℕ

@@ -7,6 +7,7 @@ mod combining;
 mod echelon;
 mod errors;
 pub mod laws;
+mod row_list;
 mod row_space;
 mod rows;
 #[cfg(test)]
@@ -16,5 +17,6 @@ mod word;
 
 pub use combining::combination;
 pub use errors::Alloc;
+pub use row_list::RowList;
 pub use row_space::{MAX_WIDTH, RowSpace};
 pub use rows::Row;

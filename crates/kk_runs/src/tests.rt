@@ -1,5 +1,6 @@
 //! What the tests share: frames, captures, and the objects that a run is made over.
 ghost use Rattle.std.specs.Prelude.{◌≡◌, ◌≤◌, [], IfOk, length};
+ghost use Rattle.kk_workers.specs.declared.running.TheConstants.{MAX_GATES};
 
 mod failing;
 mod memory;
@@ -10,40 +11,10 @@ mod unpack;
 use kk_outside::{Alloc, Gate, MemoryGate, MemoryOutlet, MemorySink, MemorySource};
 use kk_table::Logs;
 use kk_top::run;
+use kk_worked::texts;
 use std::alloc::Global;
 use std::process::Abort;
 use std::thread::Threads;
-
-/// The ticket of a file of one byte: three generations, and rows of six bits.
-const ONE_BYTE: &str = "kk1:00000001:3:0000000000000003:3:1:1";
-
-/// The codewords of the symbols 0, 5 and 7 over GF(8) with the modulus X^3 + X + 1, for l = 3 and k = 1.
-const ZERO: [u8; 3] = [8, 16, 32];
-
-const FIVE: [u8; 3] = [13, 17, 34];
-
-const SEVEN: [u8; 3] = [15, 21, 33];
-
-/// A frame of session 1 with this kind, generation and row.
-fn frame(kind: u8, generation: u8, row: u8) -> [u8; 20] {
-    [
-        75, 75, 1, kind, 0, 0, 0, 1, 0, 0, 0, generation, 0, 0, 0, 0, 0, 0, 0, row,
-    ]
-}
-
-/// A capture of these rows, three for each generation, and an END frame.
-fn capture(alloc: Global, generations: &[[u8; 3]]) -> Result<Vec<u8>, Alloc> {
-    let mut bytes = Vec::new(alloc);
-    let mut number = 0u8;
-    for rows in generations {
-        for row in rows {
-            bytes.extend_from_slice(&frame(0, number, *row))?;
-        }
-        number = number.saturating_add(1);
-    }
-    bytes.extend_from_slice(&frame(1, 0, 0))?;
-    Ok(bytes)
-}
 
 /// The first 50 bytes of a capture: two frames, and half of the third.
 fn front(bytes: &[u8]) -> &[u8] {
@@ -52,14 +23,6 @@ fn front(bytes: &[u8]) -> &[u8] {
     } else {
         &bytes[..50]
     }
-}
-
-fn texts(alloc: Global, words: &[&str]) -> Result<Vec<String>, Alloc> {
-    let mut texts = Vec::new(alloc);
-    for word in words {
-        texts.push(String::from_str(alloc, word)?)?;
-    }
-    Ok(texts)
 }
 
 /// What is under a run: the words, the bytes of the source and how many a read gives, how many bytes the sinks take at once and
@@ -143,7 +106,7 @@ fn run_over<R: Threads + Sync, G: Gate + Send>(
     gates: &mut Vec<G>,
     objects: &mut Objects,
 ) -> u8
-    requires few { length gates.old.items ≤ 16 }
+    requires few { length gates.old.items ≤ MAX_GATES }
     requires no_logs { objects.old.logs.items ≡ [] }
 {
     run(
@@ -173,7 +136,7 @@ fn outcome_over<R: Threads + Sync, G: Gate + Send>(
     setting: &Setting,
     gates: &mut Vec<G>,
 ) -> Result<Outcome, Alloc>
-    requires few { length gates.old.items ≤ 16 }
+    requires few { length gates.old.items ≤ MAX_GATES }
 {
     let words = texts(alloc, setting.words)?;
     let mut left = objects_of(alloc, setting)?;

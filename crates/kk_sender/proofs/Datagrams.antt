@@ -1,5 +1,5 @@
 -- Frames in datagrams, and what of them is out.
-use Rattle.std.proofs.Common.{◌≡◌, ℕ, zero, suc, ◌+◌, ◌*◌, ◌/◌, ◌%◌, ◌<◌, ◌≤◌, min, List, [], ◌∷◌, ◌++◌, length, map, take, drop, Option, Some, None, Result, Ok, Err, inl, inr, refl, sym, ap, subst, ◌∙◌, arith, append_assoc, length-append, length-drop}
+use Rattle.std.proofs.Common.{◌≡◌, ℕ, zero, suc, ◌+◌, ◌*◌, ◌/◌, ◌%◌, ◌<◌, ◌≤◌, min, List, [], ◌∷◌, ◌++◌, length, map, take, drop, Result, Ok, Err, inl, inr, refl, sym, ap, subst, ◌∙◌, arith, append_assoc, length-append, length-drop}
 use Rattle.std.specs.Prelude.{OnOk, OnErr}
 use Rattle.std.specs.Int.{div_ceil}
 use Rattle.std.specs.Simd.{first_chunks}
@@ -8,12 +8,12 @@ use Rattle.std.proofs.lemmas.Bool.{cases_lt}
 use Rattle.std.proofs.lemmas.List.{append-nil, take_all, drop_all, take-append-le, drop-append-le, length-map}
 use Rattle.std.proofs.lemmas.List.Concat.{flat_map-append}
 use Rattle.kk_outside.specs.Change.{Change, change}
-use Rattle.kk_outside.specs.Outlet.{OutletTold, Send, Failed, append_datagrams, append_failing}
-use Rattle.kk_outside.proofs.Taken.{append_datagrams-append, append_datagrams-nil, append_failing-append}
+use Rattle.kk_outside.specs.Outlet.{IsCutShort, OutletTold, Send, Failed, append_datagrams, append_failing}
+use Rattle.kk_outside.proofs.Taken.{append_datagrams-append, append_datagrams-nil}
 use Rattle.kk_code.specs.Ticket.{TicketFields}
 use Rattle.kk_frame.specs.Frame.{FrameValue, frame_text}
 use Rattle.kk_sender.specs.SentFrames.{text_of, datagrams_of}
-use Rattle.kk_sender.specs.Sending.{DatagramState, IsPending, IsCut, SentPrefix}
+use Rattle.kk_sender.specs.Sending.{DatagramState, IsPending, IsCut}
 
 -- what follows from a fact on an answer
 pub OnOk-then : {T E : Type 0} (A P : Type 0) (r : Result T E) → OnOk r A → (A → P) → OnOk r P
@@ -234,24 +234,25 @@ take_front : {X : Type 0} (xs ys : List X) → take (length xs) (xs ++ ys) ≡ x
 take_front xs ys = take-append-le (length xs) xs ys (omega arith) ∙ take_all (length xs) xs (omega arith)
 
 -- so a prefix of all datagrams was sent
-pub SentPrefix-cut : (t : TicketFields) (pack : ℕ) (outlet : Change OutletTold) (frames : List FrameValue) (end : List (List ℕ)) → 0 < pack → IsCut t pack outlet frames → SentPrefix outlet (datagrams_of t pack frames ++ end)
-SentPrefix-cut t pack outlet frames end some cut =
+pub IsCutShort-cut : (t : TicketFields) (pack : ℕ) (outlet : Change OutletTold) (frames : List FrameValue) (end : List (List ℕ)) → 0 < pack → IsCut t pack outlet frames → IsCutShort outlet (datagrams_of t pack frames ++ end)
+IsCutShort-cut t pack outlet frames end some cut =
     let is = cut.is_out in
     let first = datagrams_of t pack cut.out in
     let then_ = datagrams_of t pack cut.others ++ end in
     let list : datagrams_of t pack frames ++ end ≡ first ++ then_ =
     ap (λ l. datagrams_of t pack l ++ end) is.parts
     ∙ ap (λ l. l ++ end) (datagrams-append t pack is.count cut.out cut.others some is.whole)
-    ∙ append_assoc first (datagrams_of t pack cut.others) end in (
-      length first,
-      subst (λ l. length first < length l) (sym list) (omega (arith, length-append first then_, length-append (datagrams_of t pack cut.others) end, some_datagrams t pack cut.others some cut.some)),
-      cut.sent ∙ ap (append_failing outlet.old.sends) (sym (ap (take (length first)) list ∙ take_front first then_)),
-    )
+    ∙ append_assoc first (datagrams_of t pack cut.others) end in
+    record {
+      number = length first;
+      few = subst (λ l. length first < length l) (sym list) (omega (arith, length-append first then_, length-append (datagrams_of t pack cut.others) end, some_datagrams t pack cut.others some cut.some));
+      sent = cut.sent ∙ ap (append_failing outlet.old.sends) (sym (ap (take (length first)) list ∙ take_front first then_));
+    }
 
 -- all but the last one were, and its send failed
-pub SentPrefix-last : (outlet : Change OutletTold) (datagrams : List (List ℕ)) (last : List ℕ) → outlet.new.sends ≡ append_failing outlet.old.sends datagrams → SentPrefix outlet (datagrams ++ last ∷ [])
-SentPrefix-last outlet datagrams last sent = (
-  length datagrams,
-  omega (arith, length-append datagrams (last ∷ [])),
-  sent ∙ ap (append_failing outlet.old.sends) (sym (take_front datagrams (last ∷ []))),
-)
+pub IsCutShort-last : (outlet : Change OutletTold) (datagrams : List (List ℕ)) (last : List ℕ) → outlet.new.sends ≡ append_failing outlet.old.sends datagrams → IsCutShort outlet (datagrams ++ last ∷ [])
+IsCutShort-last outlet datagrams last sent = record {
+  number = length datagrams;
+  few = omega (arith, length-append datagrams (last ∷ []));
+  sent = sent ∙ ap (append_failing outlet.old.sends) (sym (take_front datagrams (last ∷ [])));
+}

@@ -3,16 +3,16 @@ use Rattle.std.proofs.Common.{◌≡◌, ℕ, ◌+◌, ◌*◌, ◌^◌, ◌<◌
 use Rattle.std.specs.Prelude.{All}
 use Rattle.std.specs.Int.{div_ceil}
 use Rattle.kk_outside.specs.Change.{Change, change}
-use Rattle.kk_outside.specs.Outlet.{OutletTold, Send, Failed, append_datagrams}
+use Rattle.kk_outside.specs.Outlet.{IsCutShort, OutletTold, Send, Failed, append_datagrams}
 use Rattle.kk_outside.proofs.Taken.{append_datagrams-append}
 use Rattle.kk_code.specs.Codeword.{Parameters, IsInRange, codeword, width}
 use Rattle.kk_code.specs.Ticket.{TicketFields, generations}
-use Rattle.kk_code.proofs.Values.{codeword_below}
+use Rattle.kk_code.proofs.Values.{codeword_below, length-codeword}
 use Rattle.kk_assemble.specs.FileBits.{cut}
 use Rattle.kk_frame.specs.Frame.{End, frame_text}
-use Rattle.kk_sender.specs.SentFrames.{codeword_of, with_combinations, sent_rows, vectors, data_frames, datagrams_of, sent_datagrams}
-use Rattle.kk_sender.specs.Sending.{IsCut, SentPrefix}
-use Rattle.kk_sender.proofs.Datagrams.{IsCut-more, SentPrefix-cut, SentPrefix-last, length-datagrams_of}
+use Rattle.kk_sender.specs.SentFrames.{codeword_of, with_combinations, sent_rows, vectors, data_frames, capture_frames, datagrams_of, sent_datagrams}
+use Rattle.kk_sender.specs.Sending.{IsCut}
+use Rattle.kk_sender.proofs.Datagrams.{IsCut-more, IsCutShort-cut, IsCutShort-last, length-datagrams_of}
 use Rattle.kk_sender.proofs.Frames.{data_frames-more, data_frames-parts, length-data_frames, length-sent_rows, with_combinations-below}
 
 -- the rows of a generation as they are computed
@@ -33,20 +33,20 @@ frames_more t file extra word g rows are =
 
 -- the outlet failed at the rows of generation g
 pub prefix_at : (t : TicketFields) (file : List ℕ) (extra pack held : ℕ) (word : ℕ → ℕ) (g : ℕ) (rows : List ℕ) (outlet : Change OutletTold) → 0 < pack → held ≡ pack → g < generations t → rows ≡ sent_rows t file extra word g
-    → IsCut t held outlet (data_frames (sent_rows t file extra word) g ++ vectors g rows) → SentPrefix outlet (sent_datagrams t file extra pack word)
+    → IsCut t held outlet (data_frames (sent_rows t file extra word) g ++ vectors g rows) → IsCutShort outlet (sent_datagrams t file extra pack word)
 prefix_at t file extra pack held word g rows outlet some same within are cut =
     let all = sent_rows t file extra word in
     let parts = data_frames-parts all (g + 1) (generations t) (omega (arith, within)) in
     let here = subst (IsCut t held outlet) (frames_more t file extra word g rows are) cut in
     let whole = subst (IsCut t held outlet) (sym parts.1) (IsCut-more t held outlet (data_frames all (g + 1)) parts.0 here) in
-    SentPrefix-cut t pack outlet (data_frames all (generations t)) (frame_text t End ∷ []) some (subst (λ n. IsCut t n outlet (data_frames all (generations t))) same whole)
+    IsCutShort-cut t pack outlet (data_frames all (generations t)) (frame_text t End ∷ []) some (subst (λ n. IsCut t n outlet (data_frames all (generations t))) same whole)
 
 -- it failed at the last rows
 pub prefix_at_end : (t : TicketFields) (file : List ℕ) (extra pack held : ℕ) (word : ℕ → ℕ) (g : ℕ) (outlet : Change OutletTold) → 0 < pack → held ≡ pack → g ≡ generations t
-    → IsCut t held outlet (data_frames (sent_rows t file extra word) g) → SentPrefix outlet (sent_datagrams t file extra pack word)
+    → IsCut t held outlet (data_frames (sent_rows t file extra word) g) → IsCutShort outlet (sent_datagrams t file extra pack word)
 prefix_at_end t file extra pack held word g outlet some same end cut =
     let all = sent_rows t file extra word in
-    SentPrefix-cut t pack outlet (data_frames all (generations t)) (frame_text t End ∷ []) some
+    IsCutShort-cut t pack outlet (data_frames all (generations t)) (frame_text t End ∷ []) some
     (subst (λ n. IsCut t n outlet (data_frames all (generations t))) same (subst (λ n. IsCut t held outlet (data_frames all n)) end cut))
 
 -- all rows went out
@@ -67,14 +67,19 @@ all_out t file extra pack word start now after rows end =
 -- or its send failed
 pub end_unsent : (t : TicketFields) (file : List ℕ) (extra pack : ℕ) (word : ℕ → ℕ) (start now after : OutletTold)
     → now.sends ≡ append_datagrams start.sends (datagrams_of t pack (data_frames (sent_rows t file extra word) (generations t)))
-    → after.sends ≡ now.sends ++ Failed ∷ [] → SentPrefix (change start after) (sent_datagrams t file extra pack word)
+    → after.sends ≡ now.sends ++ Failed ∷ [] → IsCutShort (change start after) (sent_datagrams t file extra pack word)
 end_unsent t file extra pack word start now after rows failed =
-    SentPrefix-last (change start after) (datagrams_of t pack (data_frames (sent_rows t file extra word) (generations t))) (frame_text t End) (failed ∙ ap (λ (l : List Send). l ++ Failed ∷ []) rows)
+    IsCutShort-last (change start after) (datagrams_of t pack (data_frames (sent_rows t file extra word) (generations t))) (frame_text t End) (failed ∙ ap (λ (l : List Send). l ++ Failed ∷ []) rows)
 
 -- ---- how much is sent
 
 pub length-sent_frames : (t : TicketFields) (file : List ℕ) (extra : ℕ) (word : ℕ → ℕ) → length (data_frames (sent_rows t file extra word) (generations t)) ≡ generations t * (t.code.l + extra)
 length-sent_frames t file extra word = length-data_frames (sent_rows t file extra word) (t.code.l + extra) (generations t) (length-sent_rows t file extra word)
+
+pub length-capture_frames : (t : TicketFields) (file : List ℕ) → length (capture_frames t file) ≡ generations t * t.code.l + 1
+length-capture_frames t file =
+    length-append (data_frames (codeword_of t file) (generations t)) (End ∷ [])
+    ∙ ap (λ n. n + 1) (length-data_frames (codeword_of t file) t.code.l (generations t) (λ g. length-codeword t.code (cut t.code file g)))
 
 pub length-sent_datagrams : (t : TicketFields) (file : List ℕ) (extra pack : ℕ) (word : ℕ → ℕ) → length (sent_datagrams t file extra pack word) ≡ div_ceil (generations t * (t.code.l + extra)) pack + 1
 length-sent_datagrams t file extra pack word =

@@ -15,14 +15,14 @@ IsLastRead len got [] = got ≡ len + 1
 IsLastRead len got (AtEnd ∷ []) = got ≤ len
 IsLastRead len got other = ⊥
 
--- A file of `len` bytes was looked for: the source was read to its end, or to one byte more. Each read but one at the end
--- gave some.
+-- A file of `len` bytes was looked for: the source was read to its end, or to one byte more. Each read except one at the
+-- end gave some.
 pub record ReadsToLength (len : ℕ) (source : Change SourceTold) : Type 0 where
   pub last : List Read
   pub took : Took (bytes_read source) last source
   pub ended : IsLastRead len (length (bytes_read source)) last
 
--- A read failed, the last of all, before that.
+-- A read failed, the last of all, before one byte more than the file has was read.
 pub record FailsWithinLength (len : ℕ) (source : Change SourceTold) : Type 0 where
   pub took : Took (bytes_read source) (Failed ∷ []) source
   pub before : length (bytes_read source) ≤ len

@@ -1,7 +1,7 @@
 -- Frames on their way to an outlet, in datagrams.
-use Rattle.std.specs.Prelude.{◌≡◌, ℕ, ◌*◌, ◌<◌, List, ◌++◌, length, take}
+use Rattle.std.specs.Prelude.{◌≡◌, ℕ, ◌*◌, ◌<◌, List, ◌++◌, length}
 use Rattle.kk_outside.specs.Change.{Change}
-use Rattle.kk_outside.specs.Outlet.{OutletTold, append_datagrams, append_failing}
+use Rattle.kk_outside.specs.Outlet.{OutletTold, IsCutShort, append_datagrams, append_failing}
 use Rattle.kk_code.specs.Ticket.{TicketFields}
 use Rattle.kk_frame.specs.Frame.{FrameValue}
 use Rattle.kk_sender.specs.SentFrames.{text_of, datagrams_of}
@@ -35,7 +35,6 @@ pub record IsCut (t : TicketFields) (pack : ℕ) (outlet : Change OutletTold) (f
   pub sent : outlet.new.sends ≡ append_failing outlet.old.sends (datagrams_of t pack out)
   pub some : 0 < length others
 
--- fewer of these datagrams were sent than there are, from the front; then a send failed, and it was the last
+-- the name that callers have for datagrams that were cut short
 abbrev pub SentPrefix : Change OutletTold → List (List ℕ) → Type 0
-SentPrefix outlet datagrams =
-    (n : ℕ) × (n < length datagrams) × (outlet.new.sends ≡ append_failing outlet.old.sends (take n datagrams))
+SentPrefix outlet datagrams = IsCutShort outlet datagrams

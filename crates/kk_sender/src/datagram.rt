@@ -11,7 +11,7 @@ ghost use Rattle.kk_sender.specs.Sending.{IsPending, IsCut};
 
 use arrayvec::ArrayVec;
 use kk_code::Ticket;
-use kk_frame::{FRAME_BYTES, Frame, MAX_DATAGRAM_FRAMES, write_frame};
+use kk_frame::{Frame, MAX_DATAGRAM_FRAMES, frame_bytes};
 use kk_outside::{Failed, MAX_DATAGRAM_BYTES, Outlet};
 use std::marker::Model;
 
@@ -68,8 +68,7 @@ impl Datagram {
         ensures cause { HasCause (O.told outlet.old).faults (O.told outlet.new).faults result }
         ensures pack { self.new.pack ≡ self.old.pack }
     {
-        let mut text = [0; FRAME_BYTES];
-        write_frame(frame, ticket, &mut text);
+        let text = frame_bytes(frame, ticket);
         self.bytes.try_extend_from_slice(&text).unwrap();
         self.frames += 1;
         if self.frames < self.pack {

@@ -7,16 +7,14 @@ ghost use Rattle.kk_sender.specs.LengthRule.{wrong_length, ReadsToLength, FailsW
 
 use crate::FileFault;
 use kk_code::Ticket;
-use kk_outside::{Alloc, Source, fill};
+use kk_outside::{Alloc, Source, fill, zeroed};
 use std::alloc::Global;
 
 /// Room for the file of a ticket and one byte more, as [`read_file`] takes it.
 pub fn room_for_file(alloc: Global, ticket: &Ticket) -> Result<Vec<u8>, Alloc>
     ensures { IfOk result (λ room. vec_len room ≡ ticket.now.length + 1) }
 {
-    let mut room = Vec::new(alloc);
-    room.resize(ticket.length() as usize + 1, 0)?;
-    Ok(room)
+    zeroed(alloc, ticket.length() as usize + 1)
 }
 
 /// Reads a file into all of `room` but its last byte, which is there to see whether the source has more.

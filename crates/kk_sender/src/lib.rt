@@ -13,7 +13,7 @@ pub use fault::{FileFault, SendFault};
 pub use file::{read_file, room_for_file};
 pub use kk_outside::Alloc;
 pub use rows::MAX_EXTRA;
-pub use send::{Sent, send_all};
+pub use send::{Sent, capture_frames, send_all};
 
 #[cfg(test)]
 mod tests;

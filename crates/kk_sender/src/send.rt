@@ -5,21 +5,21 @@ ghost use Rattle.kk_rows.specs.Rows.{numbers};
 ghost use Rattle.kk_outside.specs.Causes.{CanCount, HasCause};
 ghost use Rattle.kk_outside.specs.Change.{change};
 ghost use Rattle.kk_outside.specs.Source.{SourceFailed, bytes_read};
-ghost use Rattle.kk_outside.specs.Outlet.{OutletTold, OutletFailed, Failed as SendFailed, append_datagrams};
+ghost use Rattle.kk_outside.specs.Outlet.{IsCutShort, OutletTold, OutletFailed, append_datagrams};
 ghost use Rattle.kk_code.specs.Codeword.{width};
 ghost use Rattle.kk_code.specs.Ticket.{TicketFields, generations};
-ghost use Rattle.kk_frame.specs.Frame.{FrameValue, End, frame_text};
+ghost use Rattle.kk_frame.specs.Frame.{FrameValue};
 ghost use Rattle.kk_outside.specs.Generator.{after_words, word_at};
-ghost use Rattle.kk_sender.specs.SentFrames.{sent_rows, vectors, data_frames, sent_datagrams};
+ghost use Rattle.kk_sender.specs.SentFrames.{sent_rows, vectors, data_frames, capture_frames, sent_datagrams};
 ghost use Rattle.kk_sender.specs.LengthRule.{wrong_length, ReadsToLength, FailsWithinLength, LeavesAfterLength};
-ghost use Rattle.kk_sender.specs.Sending.{IsPending, IsCut, SentPrefix};
+ghost use Rattle.kk_sender.specs.Sending.{IsPending, IsCut};
 
 use crate::datagram::Datagram;
 use crate::rows::{MAX_EXTRA, SentRows};
 use crate::{SendFault, read_file, room_for_file};
 use kk_assemble::cut;
 use kk_code::{Encoder, Ticket};
-use kk_frame::{FRAME_BYTES, Frame, MAX_DATAGRAM_FRAMES, write_frame};
+use kk_frame::{Frame, MAX_DATAGRAM_FRAMES, send_frame};
 use kk_outside::{Failed, Outlet, Source};
 use kk_rows::Row;
 use rand_core::Rng;
@@ -74,7 +74,7 @@ pub fn send_all<S: Source, R: Rng, O: Outlet>(
         (sent_rows ticket.now (bytes_read (change (S.told source.old) (S.told source.new))) extra (word_at (R.stream rng.old))) (generations ticket.now)) + 1) }
     ensures datagrams { IfOk result (λ sent. sent.datagrams ≡ length
         (sent_datagrams ticket.now (bytes_read (change (S.told source.old) (S.told source.new))) extra pack (word_at (R.stream rng.old)))) }
-    ensures prefix { result ≡ Err SendFault.Outlet → SentPrefix (change (O.told outlet.old) (O.told outlet.new))
+    ensures prefix { result ≡ Err SendFault.Outlet → IsCutShort (change (O.told outlet.old) (O.told outlet.new))
         (sent_datagrams ticket.now (bytes_read (change (S.told source.old) (S.told source.new))) extra pack (word_at (R.stream rng.old))) }
     ensures unsent { OnErr result ((result ≡ Err SendFault.Outlet → ⊥) → outlet.new ≡ outlet.old) }
 
@@ -105,13 +105,29 @@ impl Sent {
         ensures frames { result.frames ≡ generations ticket.now * (ticket.now.code.l + extra) + 1 }
         ensures datagrams { result.datagrams ≡ div_ceil (generations ticket.now * (ticket.now.code.l + extra)) pack + 1 }
     {
-        let rows = u64::from(ticket.code().l()) + u64::from(extra);
-        let frames = u64::from(ticket.generations()) * rows;
+        let frames = data_frames(ticket, extra);
         Sent {
             frames: frames + 1,
             datagrams: frames.div_ceil(u64::from(pack)) + 1,
         }
     }
+}
+
+/// How many frames the capture of a file has, END among them.
+pub fn capture_frames(ticket: &Ticket) -> u64
+    ensures { (file : List ℕ) → result ≡ length (capture_frames ticket.now file) }
+{
+    data_frames(ticket, 0) + 1
+}
+
+/// How many data frames are sent of a file, with so many combinations a generation.
+fn data_frames(ticket: &Ticket, extra: u32) -> u64
+    requires { extra ≤ MAX_EXTRA }
+    ensures count { result ≡ generations ticket.now * (ticket.now.code.l + extra) }
+    ensures few { result < 2 ^ 63 }
+{
+    let rows = u64::from(ticket.code().l()) + u64::from(extra);
+    u64::from(ticket.generations()) * rows
 }
 
 /// Sends a file that is in memory, encoded by the encoder of the ticket's code.
@@ -131,7 +147,7 @@ fn send_file<R: Rng, O: Outlet>(
     requires pack { pack ≤ MAX_DATAGRAM_FRAMES }
     ensures sent { OnOk result ((O.told outlet.new).sends ≡ append_datagrams (O.told outlet.old).sends
         (sent_datagrams ticket.now file.now extra pack (word_at (R.stream rng.old)))) }
-    ensures prefix { OnErr result (SentPrefix (change (O.told outlet.old) (O.told outlet.new))
+    ensures prefix { OnErr result (IsCutShort (change (O.told outlet.old) (O.told outlet.new))
         (sent_datagrams ticket.now file.now extra pack (word_at (R.stream rng.old)))) }
     ensures cause { HasCause (O.told outlet.old).faults (O.told outlet.new).faults result }
     ensures words { OnOk result (R.stream rng.new ≡ after_words (generations ticket.now * extra) (R.stream rng.old)) }
@@ -144,7 +160,7 @@ fn send_file<R: Rng, O: Outlet>(
         push_rows(rows.as_slice(), generation, ticket, &mut datagram, outlet)?;
     }
     datagram.finish(outlet)?;
-    send_end(ticket, outlet)
+    send_frame(&Frame::End, ticket, outlet)
 }
 
 /// Adds the data frames of a generation with these rows to the datagrams.
@@ -174,15 +190,4 @@ fn push_rows<O: Outlet>(
         datagram.push(&frame, ticket, outlet)?;
     }
     Ok(())
-}
-
-/// Sends END.
-fn send_end<O: Outlet>(ticket: &Ticket, outlet: &mut O) -> Result<(), Failed>
-    ensures sent { OnOk result ((O.told outlet.new).sends ≡ append_datagrams (O.told outlet.old).sends (frame_text ticket.now End ∷ [])) }
-    ensures failed { OnErr result ((O.told outlet.new).sends ≡ (O.told outlet.old).sends ++ SendFailed ∷ []) }
-    ensures cause { HasCause (O.told outlet.old).faults (O.told outlet.new).faults result }
-{
-    let mut text = [0; FRAME_BYTES];
-    write_frame(&Frame::End, ticket, &mut text);
-    outlet.send(&text)
 }

@@ -22,7 +22,7 @@ pub look_aimed : (key : Shape) (slots id : ℕ) (me : Me (Unit {0}) View) (width
 look_aimed key slots id me width call word words width' call' same_call same_width aim =
     subst (λ (x : ℕ × (Call × Me (Unit {0}) View)). Allows (Holds key) slots id x.1.1 word (λ n. n) (Told x.0 false x.1.0 x.1.1))
     (λ i. (sym (same_width ∙ sym aim.wide) i, (sym same_call i, sym aim.knows i)))
-    (look_allowed {S = Unit {0}} key slots id (known_in me.0) call word aim.near (subst (λ (w : ℕ). IsInWidth w call) (sym aim.wide) aim.allowed.0)
+    (look_allowed {S = Unit {0}} key slots id (known_in me.0) call word aim.in_range (subst (λ (w : ℕ). IsInWidth w call) (sym aim.wide) aim.allowed.0)
     (aim.here ∙ ap (λ (w : ℕ). place_of w (generation_of call) (length (sight (known_in me.0) (generation_of call)).rows)) (sym aim.wide)))
 
 pub change_aimed : (key : Shape) (slots id : ℕ) (me : Me (Unit {0}) View) (width : ℕ) (call : Call) (word words new : ℕ) (width' : ℕ) (call' : Call)
@@ -31,6 +31,6 @@ pub change_aimed : (key : Shape) (slots id : ℕ) (me : Me (Unit {0}) View) (wid
 change_aimed key slots id me width call word words new width' call' same_call same_width is aim =
     subst (λ (x : ℕ × (Call × Me (Unit {0}) View)). Allows (Holds key) slots id x.1.1 word (λ n. either (eqb n 0) new n) (Told x.0 true x.1.0 x.1.1))
     (λ i. (sym (same_width ∙ sym aim.wide) i, (sym same_call i, sym aim.knows i)))
-    (change_allowed {S = Unit {0}} key slots id (known_in me.0) call word new aim.near
+    (change_allowed {S = Unit {0}} key slots id (known_in me.0) call word new aim.in_range
     (subst (λ (w : ℕ). IsInWidth w call) (sym aim.wide) aim.allowed.0) (aim.allowed.1 refl)
     (aim.here ∙ ap (λ (w : ℕ). place_of w (generation_of call) (length (sight (known_in me.0) (generation_of call)).rows)) (sym aim.wide)) is)

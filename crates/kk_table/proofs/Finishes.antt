@@ -30,7 +30,7 @@ ends_as key shape id given me words slots same knows all final =
 pub shows_of : (shape : Shape) (records : List Known) (words : List ℕ) → shape.width ≤ 63 → (end : IsEnd shape records words) → (g : ℕ) → g < shape.generations → Shows shape words g (log_of g end.history)
 shows_of shape records words fits end g near = record {
   fits = fits;
-  near = near;
+  in_range = near;
   size = end.size;
   is_log = end.is_history.are_logs g near;
   placed = λ p inside. end.placed g p near inside;

@@ -19,20 +19,23 @@ pub record FounderView : Type 0 where
   pub records : List Known
   pub spare : ℕ
 
--- of a new table
+-- the founder of a new table, which has given no pass
 abbrev pub new_founder : TableView → ℕ → FounderView
 new_founder table passes = record { table = table; passes = passes; given = 0; records = []; spare = 0 }
 
--- after it reserved the storage of a pass, gave a pass, or took one back
+-- the founder after it reserved the storage of a pass
 abbrev pub founder_reserved : FounderView → FounderView
 founder_reserved f = record { table = f.table; passes = f.passes; given = f.given; records = f.records; spare = f.spare + 1 }
 
+-- the founder after it gave a pass
 abbrev pub founder_gave : FounderView → FounderView
 founder_gave f = record { table = f.table; passes = f.passes; given = f.given + 1; records = f.records; spare = f.spare - 1 }
 
+-- the founder after it took back a pass that knew this
 abbrev pub founder_took : FounderView → Known → FounderView
 founder_took f k = record { table = f.table; passes = f.passes; given = f.given; records = f.records ++ k ∷ []; spare = f.spare }
 
+-- what those knew that were taken back, where the view is the founder's
 abbrev pub records_in : View → List Known
 records_in (Founder generations given records) = records
 records_in (Pass k) = []

@@ -19,6 +19,7 @@ pub record LogsView : Type 0 where
   pub records : List Known
   pub logs : List Log
 
+-- the log of generation g among these, which are by generation
 abbrev pub log_at : List Log → ℕ → Log
 log_at logs g = slice_index_or logs g unseen
 
@@ -34,7 +35,7 @@ pub record IsHistoryOf (shape : Shape) (records : List Known) (logs : ℕ → Lo
   pub seen : (r : Known) → Contains records r → (g : ℕ) → g < shape.generations → Sees (logs g) (sight r g)
   pub noted : (r : Known) → Contains records r → (m : ℕ) → Contains r.note m → StandsBefore m r.number h
 
--- there is such a history
+-- one legal history has the calls of the records, and its logs are these (`IsHistoryOf`)
 pub record IsLogs (shape : Shape) (records : List Known) (logs : List Log) : Type 0 where
   pub all : length logs ≡ shape.generations
   pub history : List Entry
@@ -43,7 +44,7 @@ pub record IsLogs (shape : Shape) (records : List Known) (logs : List Log) : Typ
 -- the words of a generation are those of the log
 pub record Shows (shape : Shape) (words : List ℕ) (g : ℕ) (l : Log) : Type 0 where
   pub fits : shape.width ≤ MAX_WIDTH
-  pub near : g < shape.generations
+  pub in_range : g < shape.generations
   pub size : length words ≡ place_of shape.width shape.generations 0
   pub is_log : IsLog shape.width l
   pub placed : (p : ℕ) → p ≤ shape.width → slice_index_or words (place_of shape.width g p) 0 ≡ word_at l p

@@ -23,6 +23,7 @@ pub record PassView : Type 0 where
   pub table : TableView
   pub known : Known
 
+-- what stands for the knowledge of a seat that is no pass
 abbrev pub stranger : Known
 stranger = record { number = 0; note = []; calls = []; seen = []; accesses = 0 }
 
@@ -44,7 +45,7 @@ pub record IsPass (shape : Shape) (number : ℕ) (me : Me (Unit {0}) View) (seen
 pub record IsAimed (key : Shape) (width : ℕ) (changing : Bool) (call : Call) (me : Me (Unit {0}) View) (word words : ℕ) : Type 0 where
   pub knows : me ≡ (Pass (known_in me.0), [])
   pub wide : key.width ≡ width
-  pub near : generation_of call < key.generations
+  pub in_range : generation_of call < key.generations
   pub here : word ≡ place_of width (generation_of call) (length (sight (known_in me.0) (generation_of call)).rows)
   pub inside : word < words
   pub allowed : IsAllowed width changing call (sight (known_in me.0) (generation_of call))

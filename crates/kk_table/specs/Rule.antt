@@ -18,7 +18,7 @@ use Rattle.kk_table.specs.declared.view.View.{View}
 use Rattle.kk_table.specs.declared.view.View.TheVariants.{Founder, Pass, Spent}
 use Rattle.kk_table.specs.Places.{place_of}
 
--- what is seen of a generation
+-- what a pass has seen of generation g
 abbrev pub sight : Known → ℕ → Log
 sight k g = slice_index_or k.seen g unseen
 
@@ -53,6 +53,7 @@ Tried width changing call Spent found after = ⊥
 abbrev pub founder_first : Shape → View
 founder_first shape = Founder shape.generations 0 []
 
+-- the numbers of the passes of these records
 abbrev pub numbers_of : List Known → List ℕ
 numbers_of records = map (λ r. r.number) records
 
@@ -76,11 +77,13 @@ FitsView shape h views records n (Founder generations given records') = ⊥
 FitsView shape h views records n (Pass k) = FitsKnown shape h views n k
 FitsView shape h views records n Spent = Contains (numbers_of records) n
 
+-- 1 for the view of a pass that was taken back, and else 0
 abbrev pub spent_as_one : View → ℕ
 spent_as_one (Founder generations given records) = 0
 spent_as_one (Pass k) = 0
 spent_as_one Spent = 1
 
+-- how many of these views are of passes that were taken back
 abbrev pub count_spent : List View → ℕ
 count_spent [] = 0
 count_spent (v ∷ vs) = spent_as_one v + count_spent vs
@@ -102,21 +105,23 @@ pub record IsKept (shape : Shape) (h : List Entry) (given : ℕ) (records : List
   pub recorded : (r : Known) → Contains records r → (get_elem? views r.number ≡ some Spent) × FitsKnown shape h views r.number r
   pub strangers : (n : ℕ) → (n ≡ 0) ⊎ (given < n) → own n h ≡ []
 
+-- words and views are kept by the rule (`IsKept`), for some legal history
 abbrev pub Holds : {S : Type 0} → Shape → State S View → Type 0
 Holds shape s = (h : List Entry) × (given : ℕ) × (records : List Known) × IsKept shape h given records s.words s.views
 
--- the founder after it gave a pass, and the pass that it gave
+-- the founder's view after it gave a pass
 abbrev pub founder_after : View → View
 founder_after (Founder generations given records) = Founder generations (given + 1) records
 founder_after (Pass k) = Pass k
 founder_after Spent = Spent
 
+-- the view of the pass that the founder gives
 abbrev pub given_by : View → View
 given_by (Founder generations given records) = Pass (newcomer generations given records)
 given_by (Pass k) = Spent
 given_by Spent = Spent
 
--- the founder after it took a pass back
+-- the founder's view after it took back the pass of view w
 abbrev pub founder_with : View → View → View
 founder_with (Founder generations given records) (Pass k) = Founder generations given (records ++ k ∷ [])
 founder_with (Founder generations given records) (Founder n g r) = Founder generations given records

@@ -105,7 +105,7 @@ impl GenTable {
     /// decides the call.
     fn step(&self, pass: &mut Pass, call: Call) -> Option<Reply>
         requires table { pass.old.table ≡ self.now }
-        requires near { generation_of call < self.now.shape.generations }
+        requires in_range { generation_of call < self.now.shape.generations }
         requires inside { IsInWidth self.now.shape.width call }
         ensures table { pass.new.table ≡ pass.old.table }
         ensures goes_on { GoesOn (generation_of call) pass.old.known pass.new.known }
@@ -134,7 +134,7 @@ impl GenTable {
     /// rows that the pass hadn't seen, and one more.
     fn decide(&self, pass: &mut Pass, call: Call) -> Reply
         requires table { pass.old.table ≡ self.now }
-        requires near { generation_of call < self.now.shape.generations }
+        requires in_range { generation_of call < self.now.shape.generations }
         requires inside { IsInWidth self.now.shape.width call }
         ensures table { pass.new.table ≡ pass.old.table }
         ensures goes_on { GoesOn (generation_of call) pass.old.known pass.new.known }

@@ -74,6 +74,13 @@ impl Logs {
         let _ = &self.logs;
     }
 
+    /// How many generations there are. They are numbered from 0.
+    pub fn generations(&self) -> u32
+        ensures { result ≡ self.now.shape.generations }
+    {
+        self.shape.generations
+    }
+
     /// The rows of the generation, in the order in which they were added. They are independent.
     pub fn rows(&self, generation: u32) -> &[Row]
         requires { generation < self.now.shape.generations }

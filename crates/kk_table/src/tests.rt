@@ -204,7 +204,7 @@ fn an_insert_reads_on_from_what_is_seen(rt: HostRuntime) -> Result<(), Fail> {
 /// Makes 100 calls, a third of them on each generation: inserts of rows that begin with this one, and peeks.
 fn call_often(table: &GenTable, pass: Pass, first: u128) -> Pass
     requires table { pass.table ≡ table.now }
-    requires near { 3 ≤ table.now.shape.generations }
+    requires in_range { 3 ≤ table.now.shape.generations }
     requires row { (table.now.shape.width ≡ 6) × (first < 2 ^ 5) }
     ensures { result.table ≡ pass.table }
 {

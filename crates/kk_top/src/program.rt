@@ -3,24 +3,30 @@ ghost use Rattle.std.specs.Prelude.{◌≡◌, ◌⊎◌, ◌≤◌, ℕ, [], So
 ghost use Rattle.kk_outside.specs.Change.{change};
 ghost use Rattle.kk_outside.specs.Source.{bytes_read};
 ghost use Rattle.kk_code.specs.Ticket.{TicketFields};
-ghost use Rattle.kk_workers.specs.Headline.{changes};
-ghost use Rattle.kk_top.specs.Command.{texts, EndedAtOnce, RanThrough, MayTouchFile};
-ghost use Rattle.kk_top.specs.Receiver.{received};
-ghost use Rattle.kk_top.specs.Refusal.{IsRefused};
-ghost use Rattle.kk_top.specs.Words.{named_in};
-ghost use Rattle.kk_top.specs.commands.Pack.{Packs};
-ghost use Rattle.kk_top.specs.commands.Plan.{NamesCode, Plans};
-ghost use Rattle.kk_top.specs.commands.Relay.{Relays};
-ghost use Rattle.kk_top.specs.commands.Recv.{Order, OrdersReceiving, Receives};
-ghost use Rattle.kk_top.specs.commands.Send.{Sends};
-ghost use Rattle.kk_top.specs.commands.Sim.{Simulates};
-ghost use Rattle.kk_top.specs.commands.Unpack.{UnpacksUnder, unpacked, Unpacks};
+ghost use Rattle.kk_workers.specs.Received.{changes};
+ghost use Rattle.kk_report.specs.Command.{texts, IsRefusalOfWords, RanThrough};
+ghost use Rattle.kk_run_recv.specs.Receiver.{received};
+ghost use Rattle.kk_report.specs.Refusal.{IsRefused};
+ghost use Rattle.kk_order.specs.Words.{named_in};
+ghost use Rattle.kk_run_pack.specs.Pack.{Packs};
+ghost use Rattle.kk_run_plan.specs.Plan.{NamesCode, Plans};
+ghost use Rattle.kk_run_relay.specs.Relay.{Relays};
+ghost use Rattle.kk_run_recv.specs.Recv.{Order, OrdersReceiving, Receives};
+ghost use Rattle.kk_run_send.specs.Send.{Sends};
+ghost use Rattle.kk_run_sim.specs.Sim.{Simulates};
+ghost use Rattle.kk_run_unpack.specs.Unpack.{UnpacksUnder, unpacked, Unpacks};
+ghost use Rattle.kk_workers.specs.declared.running.TheConstants.{MAX_GATES};
 
-use crate::refusal::Refusal;
-use crate::report::refuse;
-use crate::words::command_in;
-use crate::{run_pack, run_plan, run_recv, run_relay, run_send, run_sim, run_unpack};
+use kk_order::command_in;
 use kk_outside::{Gate, Outlet, Sink, Source};
+use kk_report::{Refusal, refuse};
+use kk_run_pack::run_pack;
+use kk_run_plan::run_plan;
+use kk_run_recv::run_recv;
+use kk_run_relay::run_relay;
+use kk_run_send::run_send;
+use kk_run_sim::run_sim;
+use kk_run_unpack::run_unpack;
 use kk_table::Logs;
 use kk_words::Command;
 use std::alloc::Global;
@@ -28,7 +34,7 @@ use std::thread::Threads;
 
 /// Runs the command that the words name, and answers its status.
 ///
-/// `words` are those of the command line, without the program's name. The commands so far are `plan`, `pack`,
+/// `words` are those of the command line, without the program's name. The commands are `plan`, `pack`,
 /// `unpack`, `send`, `relay`, `recv` and `sim`. `rt` starts threads, and nothing can be printed or opened by it. `logs` is empty
 /// before, and `recv` and `sim` leave their logs there.
 pub fn run<R: Threads + Sync, S: Source, K: Sink, P: Sink, G: Gate + Send, O: Outlet>(
@@ -42,7 +48,7 @@ pub fn run<R: Threads + Sync, S: Source, K: Sink, P: Sink, G: Gate + Send, O: Ou
     outlet: &mut O,
     logs: &mut Vec<Logs>,
 ) -> u8
-    requires few { length gates.old.items ≤ 16 }
+    requires few { length gates.old.items ≤ MAX_GATES }
     requires no_logs { logs.old.items ≡ [] }
 
     // No command is named.
@@ -73,35 +79,35 @@ pub fn run<R: Threads + Sync, S: Source, K: Sink, P: Sink, G: Gate + Send, O: Ou
 
     // A run that ended at once read nothing; of `plan` that is one whose words name no code, or that had no memory. `relay`,
     // `recv` and `sim` read nothing at all.
-    ensures unread { (named_in (texts words.now) ≡ Some Command.Plan → ⊥) → EndedAtOnce result → source.new ≡ source.old }
+    ensures unread { (named_in (texts words.now) ≡ Some Command.Plan → ⊥) → IsRefusalOfWords result → source.new ≡ source.old }
     ensures unread_by_plan { named_in (texts words.now) ≡ Some Command.Plan
         → (result ≡ 1) ⊎ ((result ≡ 8) ⊎ ((t : TicketFields) → NamesCode (texts words.now) t → ⊥)) → source.new ≡ source.old }
     ensures source { (named_in (texts words.now) ≡ Some Command.Relay) ⊎ ((named_in (texts words.now) ≡ Some Command.Recv) ⊎ (named_in (texts words.now) ≡ Some Command.Sim)) → source.new ≡ source.old }
 
     // The file's sink is called only by a run that came to its end, only for a file that has bytes, and not by `send`,
     // `relay` or `sim`.
-    ensures unwritten { (MayTouchFile result → ⊥) → file.new ≡ file.old }
+    ensures unwritten { (RanThrough result → ⊥) → file.new ≡ file.old }
     ensures no_bytes_unpacked { (t : TicketFields) (most : ℕ) → UnpacksUnder t most (texts words.now) result
         → unpacked t most (bytes_read (change (S.told source.old) (S.told source.new))) ≡ Some [] → file.new ≡ file.old }
-    ensures no_bytes_received { (order : Order) → OrdersReceiving (texts words.now) order → (EndedAtOnce result → ⊥)
+    ensures no_bytes_received { (order : Order) → OrdersReceiving (texts words.now) order → (IsRefusalOfWords result → ⊥)
         → received order.ticket order.limits (changes G.told gates.old.items gates.new.items) ≡ Some [] → file.new ≡ file.old }
     ensures file { (named_in (texts words.now) ≡ Some Command.Send) ⊎ ((named_in (texts words.now) ≡ Some Command.Relay) ⊎ (named_in (texts words.now) ≡ Some Command.Sim)) → file.new ≡ file.old }
 
     // Only `relay` and `recv` receive datagrams, `relay` from the first gate alone, and not where they ended at once.
     ensures gates { (named_in (texts words.now) ≡ Some Command.Relay → ⊥) → (named_in (texts words.now) ≡ Some Command.Recv → ⊥) → gates.new ≡ gates.old }
     ensures others { named_in (texts words.now) ≡ Some Command.Relay → drop 1 gates.new.items ≡ drop 1 gates.old.items }
-    ensures unasked { named_in (texts words.now) ≡ Some Command.Relay → EndedAtOnce result → gates.new ≡ gates.old }
-    ensures none_asked { named_in (texts words.now) ≡ Some Command.Recv → EndedAtOnce result → gates.new.items ≡ gates.old.items }
+    ensures unasked { named_in (texts words.now) ≡ Some Command.Relay → IsRefusalOfWords result → gates.new ≡ gates.old }
+    ensures none_asked { named_in (texts words.now) ≡ Some Command.Recv → IsRefusalOfWords result → gates.new.items ≡ gates.old.items }
     ensures same_gates { named_in (texts words.now) ≡ Some Command.Recv → length gates.new.items ≡ length gates.old.items }
 
     // Only `send` and `relay` send datagrams, not where they ended at once, and `send` not where its file wasn't read.
     ensures outlet { (named_in (texts words.now) ≡ Some Command.Send → ⊥) → (named_in (texts words.now) ≡ Some Command.Relay → ⊥) → outlet.new ≡ outlet.old }
-    ensures unsent { EndedAtOnce result → outlet.new ≡ outlet.old }
+    ensures unsent { IsRefusalOfWords result → outlet.new ≡ outlet.old }
     ensures no_file_sent { named_in (texts words.now) ≡ Some Command.Send → (RanThrough result → ⊥) → (result ≡ 7 → ⊥) → outlet.new ≡ outlet.old }
 
     // Only `recv` and `sim` leave logs, and not where they ended at once.
     ensures logs { (named_in (texts words.now) ≡ Some Command.Recv → ⊥) → (named_in (texts words.now) ≡ Some Command.Sim → ⊥) → logs.new ≡ logs.old }
-    ensures none_left { EndedAtOnce result → logs.new.items ≡ [] }
+    ensures none_left { IsRefusalOfWords result → logs.new.items ≡ [] }
 {
     let Some(command) = command_in(words) else {
         return refuse(Refusal::Words, report);

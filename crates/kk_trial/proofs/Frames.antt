@@ -25,28 +25,28 @@ length-frames_from rows c each a (suc n) =
     omega (arith, length-append (map pair (rows a)) (frames_from rows (a + 1) n), length-map (rows a) pair, each a, length-frames_from rows c each (a + 1) n, suc-mul n c)
 
 pub trial_frames_are_frames : TrialFramesAreFrames
-trial_frames_are_frames t loss word ticket possible =
-    let rows = received_rows t loss word in
+trial_frames_are_frames t channel word ticket possible =
+    let rows = received_rows t channel word in
     let n = generations t in
-    let c = t.code.l - loss.erase + loss.inject in
-    let count = length-frames_from rows c (λ g. length-received_rows t loss word g ticket possible) 0 n in
+    let c = t.code.l - channel.erase + channel.inject in
+    let count = length-frames_from rows c (λ g. length-received_rows t channel word g ticket possible) 0 n in
     let narrow : c ≤ MAX_WIDTH = omega (arith, possible.inject, ticket.narrow.wide) in
     record {
       count = count;
       few = omega (arith, count, mul-le-mul ticket.few narrow);
       in_range = All-frames (λ f. IsFrame t (Vector f.0 f.1)) rows 0 n (λ g above below.
-          All-weaker (λ r. r < 2 ^ width t.code) (λ r. IsFrame t (Vector g r)) (λ r small. (omega (arith, below), small)) (rows g) (received_rows-below t loss word g ticket possible));
+          All-weaker (λ r. r < 2 ^ width t.code) (λ r. IsFrame t (Vector g r)) (λ r small. (omega (arith, below), small)) (rows g) (received_rows-below t channel word g ticket possible));
     }
 
 pub dealing_is_a_permutation : DealingIsAPermutation
 dealing_is_a_permutation n frames some = (all_dealt-permuted n frames some, λ i. length-dealt_from 0 n i frames)
 
 pub dealing_keeps_rows : DealingKeepsRows
-dealing_keeps_rows t loss word n g some below =
-    let frames = trial_frames t loss word in
-    let rows = received_rows t loss word g in
+dealing_keeps_rows t channel word n g some below =
+    let frames = trial_frames t channel word in
+    let rows = received_rows t channel word g in
     let others = rows_of g (all_dealt n frames) in
-    let own : rows_of g frames ≡ rows = rows_of-frames (received_rows t loss word) 0 (generations t) g (omega arith) (omega (arith, below)) in
+    let own : rows_of g frames ≡ rows = rows_of-frames (received_rows t channel word) 0 (generations t) g (omega arith) (omega (arith, below)) in
     let permuted = subst (λ l. IsPermutation l others) own (rows_of-all_dealt n g frames some) in
     record {
       permuted = permuted;

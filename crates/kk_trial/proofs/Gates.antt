@@ -153,9 +153,9 @@ flat_map-map f h [] = refl
 flat_map-map f h (x ∷ xs) = ap (λ l. f (h x) ++ l) (flat_map-map f h xs)
 
 pub trial_gates_give_all : TrialGatesGiveAll
-trial_gates_give_all t loss n word limits ticket possible idle many =
-    let frames = trial_frames t loss word in
-    let are = trial_frames_are_frames t loss word ticket possible in
+trial_gates_give_all t channel n word limits ticket possible idle many =
+    let frames = trial_frames t channel word in
+    let are = trial_frames_are_frames t channel word ticket possible in
     let gate : ℕ → GateState = λ i. unasked (trial_events t (dealt n i frames)) in
     let gives : (i : ℕ) → GivesAll t limits (gate i) (dealt n i frames) = λ i.
     frames_are_taken t limits (dealt n i frames) ticket (All-dealt_from (IsData t) 0 n i frames are.in_range) idle (omega (arith, many, are.few, length-dealt_from 0 n i frames)) in

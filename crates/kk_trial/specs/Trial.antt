@@ -11,7 +11,7 @@ use Rattle.kk_outside.specs.declared.event.Event.TheVariants.{Datagram}
 use Rattle.kk_outside.specs.GateState.{GateState, unasked}
 use Rattle.kk_frame.specs.Frame.{Vector, frame_text}
 use Rattle.kk_channel.specs.Channel.{channel_rows, words_drawn}
-use Rattle.kk_trial.specs.declared.loss.Loss.{Loss}
+use Rattle.kk_trial.specs.declared.operator_channel.OperatorChannel.{OperatorChannel}
 
 -- ---- the file
 
@@ -26,19 +26,19 @@ made_file length word = take length (flat_map (λ i. to_be_bytes w64 (word i)) (
 -- ---- the channel
 
 -- how many words are drawn before those of generation g: the words of the file, and those of the generations before
-abbrev pub words_before : TicketFields → Loss → ℕ → ℕ
-words_before t loss g = file_words t.length + g * words_drawn t.code.l loss.inject
+abbrev pub words_before : TicketFields → OperatorChannel → ℕ → ℕ
+words_before t channel g = file_words t.length + g * words_drawn t.code.l channel.inject
 
 -- what comes out of the channel for the message of generation g, by the words that come next
-abbrev pub received_rows : TicketFields → Loss → (ℕ → ℕ) → ℕ → List ℕ
-received_rows t loss word g =
+abbrev pub received_rows : TicketFields → OperatorChannel → (ℕ → ℕ) → ℕ → List ℕ
+received_rows t channel word g =
     let sent = codeword t.code (cut t.code (made_file t.length word) g) in
-    channel_rows (λ i. word (words_before t loss g + i)) sent loss.erase loss.inject
+    channel_rows (λ i. word (words_before t channel g + i)) sent channel.erase channel.inject
 
 -- the data frames of all generations, in order
-abbrev pub trial_frames : TicketFields → Loss → (ℕ → ℕ) → List (ℕ × ℕ)
-trial_frames t loss word =
-    flat_map (λ g. map (λ r. (g, r)) (received_rows t loss word g)) (range_with_len 0 (generations t))
+abbrev pub trial_frames : TicketFields → OperatorChannel → (ℕ → ℕ) → List (ℕ × ℕ)
+trial_frames t channel word =
+    flat_map (λ g. map (λ r. (g, r)) (received_rows t channel word g)) (range_with_len 0 (generations t))
 
 -- ---- the gates
 
@@ -61,6 +61,6 @@ abbrev pub trial_events : TicketFields → List (ℕ × ℕ) → List Event
 trial_events t frames = map (λ f. Datagram (frame_text t (Vector f.0 f.1))) frames
 
 -- n gates that nobody has asked yet, over which the frames are dealt
-abbrev pub trial_gates : TicketFields → Loss → ℕ → (ℕ → ℕ) → List GateState
-trial_gates t loss n word =
-    map (λ i. unasked (trial_events t (dealt n i (trial_frames t loss word)))) (range_with_len 0 n)
+abbrev pub trial_gates : TicketFields → OperatorChannel → ℕ → (ℕ → ℕ) → List GateState
+trial_gates t channel n word =
+    map (λ i. unasked (trial_events t (dealt n i (trial_frames t channel word)))) (range_with_len 0 n)

@@ -11,7 +11,7 @@ use Rattle.kk_outside.specs.GateState.{unasked}
 use Rattle.kk_outside.specs.declared.event.Event.TheVariants.{Datagram}
 use Rattle.kk_frame.specs.Frame.{frame_text}
 use Rattle.kk_frame.specs.FrameExamples.{data_frame}
-use Rattle.kk_trial.specs.declared.loss.Loss.{Loss}
+use Rattle.kk_trial.specs.declared.operator_channel.OperatorChannel.{OperatorChannel}
 use Rattle.kk_trial.specs.Trial.{made_file, trial_frames, dealt_from, dealt, trial_gates}
 
 -- ---- files
@@ -35,7 +35,8 @@ odd_of_five = refl
 
 -- ---- a trial
 
-abbrev pub one_of_each : Loss
+-- the channel that erases one dimension and injects one
+abbrev pub one_of_each : OperatorChannel
 one_of_each = record { erase = 1; inject = 1 }
 
 -- the word of the file, five words for each of the generations 0 and 1, and then zeros

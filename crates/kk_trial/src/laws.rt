@@ -1,5 +1,5 @@
 //! Laws of trials, each the contract of a function that does nothing.
-ghost use Rattle.kk_trial.specs.Laws.{MadeFileHasItsLength, ReceivedRowsHaveTheLoss, AnswerIsTheMessage, TrialFramesAreFrames, DealingIsAPermutation, DealingKeepsRows, FramesAreTaken, TrialGatesGiveAll, TrialIsReceived};
+ghost use Rattle.kk_trial.specs.Laws.{MadeFileHasItsLength, ReceivedRowsHaveTheLoss, TrialDecodesWithinRadius, TrialFramesAreFrames, DealingIsAPermutation, DealingKeepsRows, FramesAreTaken, TrialGatesGiveAll, TrialIsReceived};
 
 /// The made file has as many bytes as were asked for.
 pub fn made_file_has_its_length()
@@ -13,8 +13,8 @@ pub fn received_rows_have_the_loss()
 {}
 
 /// On the radius and within it, rows of the span of those that came out of the channel decode to the file's message.
-pub fn answer_is_the_message()
-    ensures { AnswerIsTheMessage }
+pub fn trial_decodes_within_radius()
+    ensures { TrialDecodesWithinRadius }
 {}
 
 /// There are so many frames of each generation, and each is a frame of the ticket.

@@ -4,13 +4,13 @@
 
 mod dealing;
 pub mod laws;
-mod loss;
 mod making;
+mod operator_channel;
 mod passing;
 mod trials;
 
 pub use kk_outside::Alloc;
-pub use loss::Loss;
+pub use operator_channel::OperatorChannel;
 pub use trials::{Trial, make_trial};
 
 #[cfg(test)]

@@ -7,7 +7,7 @@ ghost use Rattle.kk_code.specs.Ticket.{generations};
 ghost use Rattle.kk_frame.specs.FrameView.{pairs};
 ghost use Rattle.kk_trial.specs.Trial.{file_words, made_file, words_before, trial_frames};
 
-use crate::Loss;
+use crate::OperatorChannel;
 use kk_assemble::cut;
 use kk_channel::pass_through;
 use kk_code::{Encoder, Ticket};
@@ -22,17 +22,17 @@ pub(crate) fn pass_file<R: Rng>(
     alloc: Global,
     ticket: &Ticket,
     file: &[u8],
-    loss: Loss,
+    channel: OperatorChannel,
     rng: &mut R,
 ) -> Result<Vec<(u32, Row)>, Alloc>
     requires whole { length file.now ≡ ticket.now.length }
-    requires erase { loss.erase ≤ ticket.now.code.l }
-    requires inject { loss.inject ≤ ticket.now.code.field.degree }
+    requires erase { channel.erase ≤ ticket.now.code.l }
+    requires inject { channel.inject ≤ ticket.now.code.field.degree }
     ensures frames { (start : Stream) → R.stream rng.old ≡ after_words (file_words ticket.now.length) start
         → file.now ≡ made_file ticket.now.length (word_at start)
-        → IfOk result (λ frames. pairs frames.items ≡ trial_frames ticket.now loss (word_at start)) }
+        → IfOk result (λ frames. pairs frames.items ≡ trial_frames ticket.now channel (word_at start)) }
     ensures words { (start : Stream) → R.stream rng.old ≡ after_words (file_words ticket.now.length) start
-        → OnOk result (R.stream rng.new ≡ after_words (words_before ticket.now loss (generations ticket.now)) start) }
+        → OnOk result (R.stream rng.new ≡ after_words (words_before ticket.now channel (generations ticket.now)) start) }
 {
     let code = ticket.code();
     let encoder = Encoder::new(alloc, &code)?;
@@ -40,7 +40,7 @@ pub(crate) fn pass_file<R: Rng>(
     for generation in 0..ticket.generations() {
         let message = cut(file, ticket, generation);
         let codeword = encoder.encode(&message);
-        let passed = pass_through(&code, &codeword, loss.erase, loss.inject, rng);
+        let passed = pass_through(&code, &codeword, channel.erase, channel.inject, rng);
         push_rows(&mut frames, generation, passed.as_slice())?;
     }
     Ok(frames)

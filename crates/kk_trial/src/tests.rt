@@ -33,11 +33,11 @@ fn trial_on_the_radius<R: Rng>(
 {
     let code = ticket.code();
     let half = (code.l() - code.k()) / 2;
-    let loss = Loss {
+    let channel = OperatorChannel {
         erase: half,
         inject: half,
     };
-    make_trial(alloc, ticket, loss, gates, rng)
+    make_trial(alloc, ticket, channel, gates, rng)
 }
 
 /// A generator with these words and then zeros. A clause sees those that are left.

@@ -4,7 +4,7 @@ ghost use Rattle.kk_outside.specs.Generator.{after_words, word_at};
 ghost use Rattle.kk_code.specs.Ticket.{generations};
 ghost use Rattle.kk_trial.specs.Trial.{made_file, words_before, trial_gates};
 
-use crate::Loss;
+use crate::OperatorChannel;
 use crate::dealing::deal;
 use crate::making::make_file;
 use crate::passing::pass_file;
@@ -33,19 +33,19 @@ pub struct Trial {
 pub fn make_trial<R: Rng>(
     alloc: Global,
     ticket: &Ticket,
-    loss: Loss,
+    channel: OperatorChannel,
     gates: u32,
     rng: &mut R,
 ) -> Result<Trial, Alloc>
-    requires erase { loss.erase ≤ ticket.now.code.l }
-    requires inject { loss.inject ≤ ticket.now.code.field.degree }
+    requires erase { channel.erase ≤ ticket.now.code.l }
+    requires inject { channel.inject ≤ ticket.now.code.field.degree }
     requires some { 1 ≤ gates }
     ensures file { IfOk result (λ trial. trial.file.items ≡ made_file ticket.now.length (word_at (R.stream rng.old))) }
-    ensures gates { IfOk result (λ trial. trial.gates.items ≡ trial_gates ticket.now loss gates (word_at (R.stream rng.old))) }
-    ensures words { OnOk result (R.stream rng.new ≡ after_words (words_before ticket.now loss (generations ticket.now)) (R.stream rng.old)) }
+    ensures gates { IfOk result (λ trial. trial.gates.items ≡ trial_gates ticket.now channel gates (word_at (R.stream rng.old))) }
+    ensures words { OnOk result (R.stream rng.new ≡ after_words (words_before ticket.now channel (generations ticket.now)) (R.stream rng.old)) }
 {
     let file = make_file(alloc, ticket.length() as usize, rng)?;
-    let frames = pass_file(alloc, ticket, &file, loss, rng)?;
+    let frames = pass_file(alloc, ticket, &file, channel, rng)?;
     let gates = deal(alloc, ticket, &frames, gates)?;
     Ok(Trial { file, gates })
 }

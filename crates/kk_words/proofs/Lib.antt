@@ -1,3 +1,1 @@
-pub mod Given
-pub mod Matches
-pub mod Taken
+pub mod Requests

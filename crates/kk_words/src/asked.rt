@@ -1,7 +1,8 @@
 //! What words ask for.
 ghost use Rattle.std.specs.Prelude.{◌≡◌, ◌<◌, length, option_map, slice_get, Some};
-ghost use Rattle.kk_words.specs.Request.{is_name, number_of};
+ghost use Rattle.kk_words.specs.Request.{number_of, request_with};
 
+use crate::argument::SEED_NAME;
 use crate::{Command, Name};
 use std::marker::Model;
 
@@ -9,46 +10,23 @@ use std::marker::Model;
 #[derive(Debug, Drop)]
 pub struct Asked {
     command: Command,
-    texts: Vec<String>,
-    seed: Option<String>,
-    /// The numbers of the command, each under its name: those that were given, and the others by their defaults.
-    numbers: Vec<(Name, u64)>,
+    /// What was found by the command's form.
+    request: kk_forms::Request,
 }
 
 impl Model for Asked {
-    ghost use Rattle.std.specs.Prelude.{map, option_map, string_bytes};
-    ghost use Rattle.kk_words.specs.Request.{Request};
+    ghost use Rattle.kk_words.specs.Request.{Request, request_with};
 
     ghost Value = { Request };
 
-    ghost view = { λ a. record {
-      command = a.command;
-      texts = map string_bytes a.texts.items;
-      seed = option_map string_bytes a.seed;
-      numbers = a.numbers.items;
-    } };
+    ghost view = { λ a. request_with a.command a.request };
 }
 
 impl Asked {
-    ghost use Rattle.std.specs.Prelude.{map, option_map, string_bytes};
-
-    pub(crate) fn new(
-        command: Command,
-        texts: Vec<String>,
-        seed: Option<String>,
-        numbers: Vec<(Name, u64)>,
-    ) -> Asked
-        ensures command { result.command ≡ command }
-        ensures texts { result.texts ≡ map string_bytes texts.items }
-        ensures seed { result.seed ≡ option_map string_bytes seed }
-        ensures numbers { result.numbers ≡ numbers.items }
+    pub(crate) fn new(command: Command, request: kk_forms::Request) -> Asked
+        ensures { result ≡ request_with command request }
     {
-        Asked {
-            command,
-            texts,
-            seed,
-            numbers,
-        }
+        Asked { command, request }
     }
 
     /// The command that the first word names.
@@ -62,7 +40,7 @@ impl Asked {
     pub fn texts(&self) -> usize
         ensures { result ≡ length self.now.texts }
     {
-        self.texts.len()
+        self.request.texts()
     }
 
     /// Text `i`: of the words after the first that stand at places of their own and are no numbers, the one at place `i`.
@@ -70,17 +48,14 @@ impl Asked {
         requires { i < length self.now.texts }
         ensures { slice_get self.now.texts i ≡ Some result.now }
     {
-        self.texts[i].as_str()
+        self.request.text(i)
     }
 
     /// The word of `--seed`, where it was given.
     pub fn seed(&self) -> Option<&str>
         ensures { option_map (λ s. s.now) result ≡ self.now.seed }
     {
-        match &self.seed {
-            Some(seed) => Some(seed.as_str()),
-            None => None,
-        }
+        self.request.option(SEED_NAME)
     }
 
     /// The number under this name: the one that was given, or its default.
@@ -89,11 +64,6 @@ impl Asked {
     pub fn number(&self, name: Name) -> Option<u64>
         ensures { result ≡ number_of self.now.numbers name }
     {
-        let (_, number) = self.numbers.iter().find(
-            |entry|
-                ensures { result ≡ is_name entry.now.now.0 name }
-            { entry.0 == name },
-        )?;
-        Some(*number)
+        self.request.number(name.text())
     }
 }

@@ -1,8 +1,12 @@
 //! The commands, and the form of each.
-ghost use Rattle.std.specs.Prelude.{◌≡◌};
-ghost use Rattle.kk_words.specs.Commands.{command_named, form_of, name_of};
+ghost use Rattle.std.specs.Prelude.{◌≡◌, IsTrue};
+ghost use Rattle.kk_forms.specs.Form.{form_of as seen_form, is_sound};
+ghost use Rattle.kk_words.specs.Commands.{command_named, form_of};
 
-use crate::argument::{Argument, Name, Word};
+use crate::argument::{
+    ERASE, EXTRA, GATES, IDLE, INJECT, LISTEN, MOST, PACK, RATE, SEED, TARGET, TICKET, TOLERATE,
+};
+use kk_forms::{Argument, Form};
 
 /// A command of the program.
 #[derive(Clone, Copy, Debug, PartialEq, Eq)]
@@ -15,55 +19,6 @@ pub enum Command {
     Recv,
     Sim,
 }
-
-/// A session, the code's parameters, and nothing on the file, whose length the source tells.
-const PLAN: [Argument; 5] = [
-    Argument::Word(Word::Session),
-    Argument::Word(Word::M),
-    Argument::Word(Word::Mod),
-    Argument::Word(Word::L),
-    Argument::Word(Word::K),
-];
-
-const PACK: [Argument; 1] = [Argument::Word(Word::Ticket)];
-
-const UNPACK: [Argument; 2] = [Argument::Word(Word::Ticket), Argument::Number(Name::Most)];
-
-const SEND: [Argument; 5] = [
-    Argument::Word(Word::Ticket),
-    Argument::Word(Word::Target),
-    Argument::Seed,
-    Argument::Number(Name::Extra),
-    Argument::Number(Name::Pack),
-];
-
-const RELAY: [Argument; 7] = [
-    Argument::Word(Word::Ticket),
-    Argument::Word(Word::Target),
-    Argument::Word(Word::Listen),
-    Argument::Seed,
-    Argument::Number(Name::Rate),
-    Argument::Number(Name::Idle),
-    Argument::Number(Name::Most),
-];
-
-/// A receiver listens at one address or more.
-const RECV: [Argument; 5] = [
-    Argument::Word(Word::Ticket),
-    Argument::Words(Word::Listen),
-    Argument::Number(Name::Idle),
-    Argument::Number(Name::Most),
-    Argument::Number(Name::Tolerate),
-];
-
-/// What a channel does to each generation, and how many gates hear it.
-const SIM: [Argument; 5] = [
-    Argument::Word(Word::Ticket),
-    Argument::Place(Name::Erase),
-    Argument::Place(Name::Inject),
-    Argument::Place(Name::Gates),
-    Argument::Seed,
-];
 
 impl Command {
     /// The command that a first word names.
@@ -82,33 +37,49 @@ impl Command {
         }
     }
 
-    /// The first word of the command.
-    pub(crate) fn name(self) -> &'static str
-        ensures { result.now ≡ name_of self }
+    /// The form of the command: its first word, and its arguments, the words in the order in which they are given.
+    pub(crate) fn form(self) -> Form
+        ensures form { seen_form result ≡ form_of self }
+        ensures sound { IsTrue (is_sound (seen_form result)) }
     {
         match self {
-            Command::Plan => "plan",
-            Command::Pack => "pack",
-            Command::Unpack => "unpack",
-            Command::Send => "send",
-            Command::Relay => "relay",
-            Command::Recv => "recv",
-            Command::Sim => "sim",
-        }
-    }
-
-    /// The arguments of the command. Its words stand in the order in which they are given.
-    pub(crate) fn form(self) -> &'static [Argument]
-        ensures { result.now ≡ form_of self }
-    {
-        match self {
-            Command::Plan => &PLAN,
-            Command::Pack => &PACK,
-            Command::Unpack => &UNPACK,
-            Command::Send => &SEND,
-            Command::Relay => &RELAY,
-            Command::Recv => &RECV,
-            Command::Sim => &SIM,
+            // A session, the code's parameters, and nothing on the file, whose length the source tells.
+            Command::Plan => Form {
+                name: "plan",
+                arguments: &[
+                    Argument::Word("SESSION"),
+                    Argument::Word("M"),
+                    Argument::Word("MOD"),
+                    Argument::Word("L"),
+                    Argument::Word("K"),
+                ],
+            },
+            Command::Pack => Form {
+                name: "pack",
+                arguments: &[TICKET],
+            },
+            Command::Unpack => Form {
+                name: "unpack",
+                arguments: &[TICKET, MOST],
+            },
+            Command::Send => Form {
+                name: "send",
+                arguments: &[TICKET, TARGET, SEED, EXTRA, PACK],
+            },
+            Command::Relay => Form {
+                name: "relay",
+                arguments: &[TICKET, TARGET, LISTEN, SEED, RATE, IDLE, MOST],
+            },
+            // A receiver listens at one address or more.
+            Command::Recv => Form {
+                name: "recv",
+                arguments: &[TICKET, Argument::Words("LISTEN"), IDLE, MOST, TOLERATE],
+            },
+            // What a channel does to each generation, and how many gates hear it.
+            Command::Sim => Form {
+                name: "sim",
+                arguments: &[TICKET, ERASE, INJECT, GATES, SEED],
+            },
         }
     }
 }

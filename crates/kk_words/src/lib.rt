@@ -4,13 +4,12 @@
 mod argument;
 mod asked;
 mod command;
-mod fault;
 mod reading;
 
 pub use argument::Name;
 pub use asked::Asked;
 pub use command::Command;
-pub use fault::WordsFault;
+pub use kk_forms::WordsFault;
 pub use reading::read_words;
 
 #[cfg(test)]

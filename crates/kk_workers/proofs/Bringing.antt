@@ -10,8 +10,8 @@ use Rattle.kk_machine.specs.Inserts.{AreBelow, tally, inserts}
 use Rattle.kk_machine.proofs.Tallies.{AreBelow-none, AreBelow-append}
 use Rattle.kk_table.specs.declared.answers.Inserted.{Inserted}
 use Rattle.kk_table.specs.Answers.{insert_reply}
-use Rattle.kk_workers.specs.Works.{brought, all_brought, reaches}
-use Rattle.kk_workers.specs.Working.{Brings}
+use Rattle.kk_workers.specs.WorkerCalls.{brought, all_brought, reaches}
+use Rattle.kk_workers.specs.WorkerLoop.{InsertsInOrder}
 use Rattle.kk_workers.proofs.Goals.{InsertsFor-none, InsertsFor-append, inserts_alone, inserts_to_goal}
 
 pub all_brought-none : all_brought [] ≡ []
@@ -37,8 +37,8 @@ unfolding tally all_brought
 inserts-brought [] = refl
 inserts-brought (e ∷ es) = omega (arith, brings_as_many e, inserts-brought es, length-append (brought e.call) (all_brought es))
 
-pub Brings-nothing : (n : ℕ) (goal : Option ℕ) (calls : List Entry) → Brings n goal calls calls []
-Brings-nothing n goal calls = record {
+pub InsertsInOrder-nothing : (n : ℕ) (goal : Option ℕ) (calls : List Entry) → InsertsInOrder n goal calls calls []
+InsertsInOrder-nothing n goal calls = record {
   more = [];
   goes_on = sym (append-nil calls);
   inserts = InsertsFor-none goal;
@@ -46,8 +46,8 @@ Brings-nothing n goal calls = record {
   in_order = all_brought-none;
 }
 
-pub Brings-append : (n : ℕ) (goal : Option ℕ) (a b c : List Entry) (fs gs : List (ℕ × ℕ)) → Brings n goal a b fs → Brings n goal b c gs → Brings n goal a c (fs ++ gs)
-Brings-append n goal a b c fs gs ab bc = record {
+pub InsertsInOrder-append : (n : ℕ) (goal : Option ℕ) (a b c : List Entry) (fs gs : List (ℕ × ℕ)) → InsertsInOrder n goal a b fs → InsertsInOrder n goal b c gs → InsertsInOrder n goal a c (fs ++ gs)
+InsertsInOrder-append n goal a b c fs gs ab bc = record {
   more = ab.more ++ bc.more;
   goes_on = bc.goes_on ∙ ap (λ (x : List Entry). x ++ bc.more) ab.goes_on ∙ append_assoc a ab.more bc.more;
   inserts = InsertsFor-append goal ab.more bc.more ab.inserts bc.inserts;
@@ -56,10 +56,10 @@ Brings-append n goal a b c fs gs ab bc = record {
 }
 
 -- one insert, which doesn't reach the goal
-pub Brings-insert : (n : ℕ) (goal : Option ℕ) (a b : List Entry) (number g : ℕ) (row : Row) (answer : Inserted) → g < n → reaches goal answer ≡ false
-    → b ≡ a ++ entry number (Insert g row) (insert_reply answer) ∷ [] → Brings n goal a b ((g, row.0) ∷ [])
+pub InsertsInOrder-insert : (n : ℕ) (goal : Option ℕ) (a b : List Entry) (number g : ℕ) (row : Row) (answer : Inserted) → g < n → reaches goal answer ≡ false
+    → b ≡ a ++ entry number (Insert g row) (insert_reply answer) ∷ [] → InsertsInOrder n goal a b ((g, row.0) ∷ [])
 unfolding all_brought AreBelow
-Brings-insert n goal a b number g row answer below short is = record {
+InsertsInOrder-insert n goal a b number g row answer below short is = record {
   more = entry number (Insert g row) (insert_reply answer) ∷ [];
   goes_on = is;
   inserts = inserts_alone goal number g row answer short;
@@ -68,10 +68,10 @@ Brings-insert n goal a b number g row answer below short is = record {
 }
 
 -- one that reaches it, and the freeze after it
-pub Brings-freeze : (n : ℕ) (goal : Option ℕ) (a b c : List Entry) (number number' g : ℕ) (row : Row) (answer : Inserted) (reply : Reply) → g < n → reaches goal answer ≡ true
-    → b ≡ a ++ entry number (Insert g row) (insert_reply answer) ∷ [] → c ≡ b ++ entry number' (Freeze g) reply ∷ [] → Brings n goal a c ((g, row.0) ∷ [])
+pub InsertsInOrder-freeze : (n : ℕ) (goal : Option ℕ) (a b c : List Entry) (number number' g : ℕ) (row : Row) (answer : Inserted) (reply : Reply) → g < n → reaches goal answer ≡ true
+    → b ≡ a ++ entry number (Insert g row) (insert_reply answer) ∷ [] → c ≡ b ++ entry number' (Freeze g) reply ∷ [] → InsertsInOrder n goal a c ((g, row.0) ∷ [])
 unfolding all_brought AreBelow
-Brings-freeze n goal a b c number number' g row answer reply below there is freeze =
+InsertsInOrder-freeze n goal a b c number number' g row answer reply below there is freeze =
     let e = entry number (Insert g row) (insert_reply answer) in
     let f = entry number' (Freeze g) reply in
     record {

@@ -13,7 +13,7 @@ use Rattle.kk_table.specs.declared.answers.Freeze.TheVariants.{Frozen, Already}
 use Rattle.kk_table.specs.Answers.{insert_reply, freeze_reply}
 use Rattle.kk_workers.specs.declared.totals.Totals.{Totals}
 use Rattle.kk_workers.specs.Totals.{totals_in, no_totals, counted, AreWithin}
-use Rattle.kk_workers.specs.Working.{AreTotals}
+use Rattle.kk_workers.specs.WorkerLoop.{AreTotals}
 
 -- totals with equal parts
 pub same_totals : {a a' b b' c c' d d' : ℕ} → a ≡ a' → b ≡ b' → c ≡ c' → d ≡ d'

@@ -26,9 +26,9 @@ use Rattle.kk_table.specs.declared.view.Known.{Known}
 use Rattle.kk_table.specs.Rule.{sight, numbers_of}
 use Rattle.kk_table.specs.Logs.{IsHistoryOf}
 use Rattle.kk_workers.specs.Totals.{totals_in, no_totals}
-use Rattle.kk_workers.specs.Works.{brought, all_brought, InsertsFor, AreAnswers}
+use Rattle.kk_workers.specs.WorkerCalls.{brought, all_brought, InsertsFor, AreAnswers}
 use Rattle.kk_workers.specs.Runs.{kept_answer, closing_answer, Closes}
-use Rattle.kk_workers.specs.Headline.{is_open, open_after}
+use Rattle.kk_workers.specs.Received.{is_open, open_after}
 use Rattle.kk_workers.proofs.Goals.{told_goal}
 use Rattle.kk_workers.proofs.Firsts.{own_froze, frozen_before}
 use Rattle.kk_workers.proofs.Kept.{kept_some, kept_none}

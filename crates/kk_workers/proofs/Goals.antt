@@ -13,7 +13,7 @@ use Rattle.kk_machine.proofs.Tallies.{EachCall-none, EachCall-append, EachCall-o
 use Rattle.kk_table.specs.declared.answers.Inserted.{Inserted}
 use Rattle.kk_table.specs.declared.answers.Inserted.TheVariants.{Innovative, Redundant, Late}
 use Rattle.kk_table.specs.Answers.{insert_reply}
-use Rattle.kk_workers.specs.Works.{InsertsFor, reaches}
+use Rattle.kk_workers.specs.WorkerCalls.{InsertsFor, reaches}
 
 pub InsertsFor-none : (goal : Option ℕ) → InsertsFor goal []
 unfolding AtGoal

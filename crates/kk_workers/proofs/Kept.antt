@@ -27,8 +27,8 @@ use Rattle.kk_table.specs.Rule.{sight}
 use Rattle.kk_table.specs.Pass.{GoesOn}
 use Rattle.kk_workers.specs.declared.inserter.Inserter.{Inserter}
 use Rattle.kk_workers.specs.Totals.{totals_in, no_totals, counted, AreWithin}
-use Rattle.kk_workers.specs.Works.{AreAnswers}
-use Rattle.kk_workers.specs.Working.{AreTotals, IsInserter}
+use Rattle.kk_workers.specs.WorkerCalls.{AreAnswers}
+use Rattle.kk_workers.specs.WorkerLoop.{AreTotals, IsInserter}
 use Rattle.kk_workers.specs.Runs.{lists_in, kept_answer}
 use Rattle.kk_workers.proofs.Counting.{part, AreTotals-none, totals-insert, totals-freeze, insert_unfrozen}
 

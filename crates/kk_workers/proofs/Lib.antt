@@ -2,11 +2,11 @@ pub mod Counting
 pub mod Goals
 pub mod Firsts
 pub mod Bringing
-pub mod Works
+pub mod WorkerLoop
 pub mod Kept
 pub mod Hires
 pub mod Closings
 pub mod Stations
 pub mod Frozen
-pub mod Headlines
+pub mod OneHistory
 pub mod Sent

@@ -19,15 +19,15 @@ use Rattle.kk_machine.specs.declared.log.Log.{Log}
 use Rattle.kk_machine.specs.Spaces.{unseen}
 use Rattle.kk_machine.specs.Inserts.{FrozenBy}
 use Rattle.kk_table.specs.Logs.{log_at}
-use Rattle.kk_workers.specs.Headline.{all_taken}
+use Rattle.kk_workers.specs.Received.{all_taken}
 use Rattle.kk_workers.specs.Laws.{IsTolerable, FrozenRowsDecode, AnswersAreTheMessages}
-use Rattle.kk_workers.proofs.Headlines.{map_at}
+use Rattle.kk_workers.proofs.OneHistory.{map_at}
 
 module _ (p : Parameters) (code : IsCode p) where
   rows_decode : (tolerated : ℕ) (rows u : List ℕ) → IsTolerable p tolerated rows u → Decodes p rows u
   rows_decode tolerated rows u is = record {
     message = is.message;
-    near = ⊎_elim (λ many. part_is_within_the_radius p code rows rows u tolerated (in_span-each rows) is.injected many) (λ near. near) is.enough;
+    within = ⊎_elim (λ many. part_is_within_the_radius p code rows rows u tolerated (in_span-each rows) is.injected many) (λ near. near) is.enough;
   }
 
   each_inside : (frozen rows : List ℕ) → ((x : ℕ) → in_span frozen x ≡ true → in_span rows x ≡ true) → All (λ r. in_span rows r ≡ true) frozen
@@ -41,7 +41,7 @@ module _ (p : Parameters) (code : IsCode p) where
       (answer-same_span p frozen rows (same_span_members frozen rows same) ∙ (answer_is_the_message.some p code rows u).1 (rows_decode tolerated rows u is)))
       (λ (reached : (n : ℕ) × (Some goal ≡ Some n) × (n ≤ length frozen)). record {
         message = is.message;
-        near = part_is_within_the_radius p code frozen rows u tolerated (each_inside frozen rows (in_span-contained frozen rows by.came)) is.injected
+        within = part_is_within_the_radius p code frozen rows u tolerated (each_inside frozen rows (in_span-contained frozen rows by.came)) is.injected
             (omega (arith, at, same_Some goal reached.0 reached.1, reached.2, by.independent));
       })
       by.enough

@@ -1,8 +1,8 @@
 pub mod Totals
-pub mod Works
-pub mod Working
+pub mod WorkerCalls
+pub mod WorkerLoop
 pub mod Worker
 pub mod Runs
-pub mod Headline
+pub mod Received
 pub mod Receiving
 pub mod Laws

@@ -5,22 +5,23 @@ use Rattle.kk_outside.specs.Change.{change}
 use Rattle.kk_outside.specs.Gate.{GateTold}
 use Rattle.kk_code.specs.Codeword.{IsCode}
 use Rattle.kk_code.specs.Ticket.{TicketFields, generations}
+use Rattle.kk_frame.specs.Asking.{FaultCause}
 use Rattle.kk_table.specs.declared.view.Known.{Known}
 use Rattle.kk_table.specs.Rule.{numbers_of}
 use Rattle.kk_table.specs.Table.{shape_of}
 use Rattle.kk_workers.specs.declared.plan.Plan.{Plan}
 use Rattle.kk_workers.specs.Totals.{sum_of_totals}
-use Rattle.kk_workers.specs.Works.{AreAnswers, Worked, FaultCause}
-use Rattle.kk_workers.specs.Working.{AreTotals}
+use Rattle.kk_workers.specs.WorkerCalls.{AreAnswers, WasWorkedOff}
+use Rattle.kk_workers.specs.WorkerLoop.{AreTotals}
 use Rattle.kk_workers.specs.Worker.{WorkerView}
 use Rattle.kk_workers.specs.Runs.{Closes, closing_answer}
-use Rattle.kk_workers.specs.Headline.{ReceivedView}
+use Rattle.kk_workers.specs.Received.{ReceivedView}
 
 -- the worker of the gate at place i has worked
 pub record IsDone {G : Type 0} (told : G → GateTold) (t : TicketFields) (plan : Plan) (i : ℕ) (gate : G) (w : WorkerView G) : Type 0 where
   pub number : w.pass.known.number ≡ i + 1
   pub note : w.pass.known.note ≡ []
-  pub worked : Worked t plan (change (told gate) (told w.gate)) w.counts w.pass.known.calls
+  pub worked : WasWorkedOff t plan (change (told gate) (told w.gate)) w.counts w.pass.known.calls
   pub totals : AreTotals w.totals w.pass.known.calls
   pub answers : AreAnswers t.code w.pass.known w.answers
   pub all_answers : length w.answers ≡ generations t

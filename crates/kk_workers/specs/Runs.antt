@@ -9,6 +9,7 @@ use Rattle.kk_outside.specs.Gate.{GateTold}
 use Rattle.kk_code.specs.Codeword.{Parameters}
 use Rattle.kk_code.specs.Decoding.{answer}
 use Rattle.kk_code.specs.Ticket.{TicketFields, generations}
+use Rattle.kk_frame.specs.Asking.{FaultCause}
 use Rattle.kk_machine.specs.declared.call.Call.{Call}
 use Rattle.kk_machine.specs.declared.call.Call.TheVariants.{Insert, Freeze, Peek}
 use Rattle.kk_machine.specs.declared.call.Entry.{Entry}
@@ -21,12 +22,13 @@ use Rattle.kk_table.specs.Table.{TableView, shape_of}
 use Rattle.kk_workers.specs.declared.plan.Plan.{Plan}
 use Rattle.kk_workers.specs.declared.station.Station.{Station}
 use Rattle.kk_workers.specs.Totals.{totals_in, no_totals}
-use Rattle.kk_workers.specs.Works.{SamePass, AreAnswers, Worked, FaultCause}
-use Rattle.kk_workers.specs.Working.{AreTotals}
+use Rattle.kk_workers.specs.WorkerCalls.{SamePass, AreAnswers, WasWorkedOff}
+use Rattle.kk_workers.specs.WorkerLoop.{AreTotals}
 use Rattle.kk_workers.specs.Worker.{WorkerView, new_worker}
 
 -- ---- before the first call on a gate
 
+-- a founder with its table, how many passes it may give and has given, the records that it has, and its reserved storage
 abbrev pub founder_of : TableView → ℕ → ℕ → List Known → ℕ → FounderView
 founder_of table passes given records spare = record { table = table; passes = passes; given = given; records = records; spare = spare }
 
@@ -62,7 +64,7 @@ pub record IsReady {G : Type 0} (here : TableView) (t : TicketFields) (w : Worke
 -- what a worker did
 pub record Did {G : Type 0} (told : G → GateTold) (t : TicketFields) (plan : Plan) (w w' : WorkerView G) : Type 0 where
   pub same : SamePass w.pass w'.pass
-  pub worked : Worked t plan (change (told w.gate) (told w'.gate)) w'.counts w'.pass.known.calls
+  pub worked : WasWorkedOff t plan (change (told w.gate) (told w'.gate)) w'.counts w'.pass.known.calls
   pub totals : AreTotals w'.totals w'.pass.known.calls
   pub few : w'.totals.inserts ≤ 2 ^ 39
   pub answers : AreAnswers t.code w'.pass.known w'.answers

@@ -6,7 +6,7 @@ use Rattle.kk_table.specs.declared.answers.Inserted.{Inserted}
 use Rattle.kk_table.specs.declared.answers.Inserted.TheVariants.{Innovative, Redundant, Late}
 use Rattle.kk_workers.specs.declared.totals.Totals.{Totals}
 
--- the inserts of these calls, and how many of the replies are of each kind
+-- how many inserts these calls have, and how many of their replies are of each kind
 abbrev pub totals_in : List Entry → Totals
 totals_in calls = record {
   inserts = tally inserts calls;
@@ -15,15 +15,17 @@ totals_in calls = record {
   late = tally (of_reply late) calls;
 }
 
+-- the totals of no insert
 abbrev pub no_totals : Totals
 no_totals = record { inserts = 0; innovative = 0; redundant = 0; late = 0 }
 
--- with the answer to one insert more
+-- the totals with the answer to one insert more
 abbrev pub counted : Inserted → Totals → Totals
 counted (Innovative rank) t = record { inserts = t.inserts + 1; innovative = t.innovative + 1; redundant = t.redundant; late = t.late }
 counted Redundant t = record { inserts = t.inserts + 1; innovative = t.innovative; redundant = t.redundant + 1; late = t.late }
 counted Late t = record { inserts = t.inserts + 1; innovative = t.innovative; redundant = t.redundant; late = t.late + 1 }
 
+-- the totals of what both totals count
 abbrev pub both : Totals → Totals → Totals
 both a b = record {
   inserts = a.inserts + b.inserts;
@@ -32,7 +34,7 @@ both a b = record {
   late = a.late + b.late;
 }
 
--- all of these together
+-- the totals of what all these totals count
 abbrev pub sum_of_totals : List Totals → Totals
 sum_of_totals ts = record {
   inserts = sum_by (λ t. t.inserts) ts;

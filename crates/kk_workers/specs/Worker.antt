@@ -14,10 +14,11 @@ pub record WorkerView (G : Type 0) : Type 0 where
   pub totals : Totals
   pub answers : List (Option (Option (List ℕ)))
 
+-- the counts of a gate of which no piece was refused
 abbrev pub none_refused : Refused
 none_refused = record { badlength = 0; magic = 0; version = 0; kind = 0; session = 0; generation = 0; row = 0; endrow = 0 }
 
--- of a gate that was not asked
+-- the counts of a gate that was not asked
 abbrev pub no_counts : GateCount
 no_counts = record { ended = None; datagrams = 0; frames = 0; refused = none_refused }
 

@@ -4,7 +4,7 @@ ghost use Rattle.std.specs.List.{range_with_len};
 ghost use Rattle.kk_code.specs.Codeword.{width};
 ghost use Rattle.kk_code.specs.Decoding.{answer};
 ghost use Rattle.kk_table.specs.Rule.{sight};
-ghost use Rattle.kk_workers.specs.Works.{SamePass};
+ghost use Rattle.kk_workers.specs.WorkerCalls.{SamePass};
 ghost use Rattle.kk_workers.specs.Runs.{Closes, lists_in, kept_answer as answer_in, closing_answer};
 
 use crate::decoding::decode_seen;

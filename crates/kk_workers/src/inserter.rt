@@ -1,10 +1,11 @@
 //! A pass at work: it inserts, and with a goal it freezes and decodes.
-ghost use Rattle.std.specs.Prelude.{◌≡◌, ◌<◌, ◌≤◌, ◌+◌, ◌^◌, [], ◌∷◌, All};
+ghost use Rattle.std.specs.Prelude.{◌≡◌, ◌<◌, ◌≤◌, ◌+◌, ◌^◌, [], ◌∷◌, All, IfSome};
 ghost use Rattle.kk_code.specs.Ticket.{generations};
+ghost use Rattle.kk_frame.specs.Asking.{frames_of};
 ghost use Rattle.kk_frame.specs.Frame.{IsFrame, Vector};
 ghost use Rattle.kk_table.specs.Table.{shape_of};
-ghost use Rattle.kk_workers.specs.Works.{SamePass, reaches as reaches_goal};
-ghost use Rattle.kk_workers.specs.Working.{Brings, Freezes, IsInserter};
+ghost use Rattle.kk_workers.specs.WorkerCalls.{SamePass, reaches as reaches_goal};
+ghost use Rattle.kk_workers.specs.WorkerLoop.{InsertsInOrder, Freezes, IsInserter};
 
 use crate::Totals;
 use crate::decoding::decode_seen;
@@ -27,8 +28,31 @@ pub(crate) struct Inserter {
 }
 
 impl Inserter {
+    /// Inserts the data frames of an answer of the gate, where that is a datagram.
+    pub(crate) fn insert_frames(
+        &mut self,
+        table: &GenTable,
+        ticket: &Ticket,
+        goal: Option<u32>,
+        frames: &Option<Batch>,
+        scratch: &mut Scratch,
+    )
+        requires table { self.old.pass.table ≡ table.now }
+        requires shape { table.now.shape ≡ shape_of ticket.now }
+        requires frames { IfSome frames.now (λ batch. All (λ f. IsFrame ticket.now (Vector f.0 f.1)) batch) }
+        requires inserter { IsInserter ticket.now self.old }
+        requires few { self.old.totals.inserts ≤ 2 ^ 39 }
+        ensures pass { SamePass self.old.pass self.new.pass }
+        ensures brings { InsertsInOrder (generations ticket.now) goal self.old.pass.known.calls self.new.pass.known.calls (frames_of frames.now) }
+        ensures inserter { IsInserter ticket.now self.new }
+    {
+        if let Some(batch) = frames {
+            self.insert_all(table, ticket, goal, batch, scratch);
+        }
+    }
+
     /// Inserts the data frames of a datagram.
-    pub(crate) fn insert_all(
+    fn insert_all(
         &mut self,
         table: &GenTable,
         ticket: &Ticket,
@@ -42,7 +66,7 @@ impl Inserter {
         requires inserter { IsInserter ticket.now self.old }
         requires few { self.old.totals.inserts ≤ 2 ^ 39 }
         ensures pass { SamePass self.old.pass self.new.pass }
-        ensures brings { Brings (generations ticket.now) goal self.old.pass.known.calls self.new.pass.known.calls batch.now }
+        ensures brings { InsertsInOrder (generations ticket.now) goal self.old.pass.known.calls self.new.pass.known.calls batch.now }
         ensures inserter { IsInserter ticket.now self.new }
     {
         for (generation, row) in batch.as_slice() {
@@ -67,7 +91,7 @@ impl Inserter {
         requires inserter { IsInserter ticket.now self.old }
         requires few { self.old.totals.inserts ≤ 2 ^ 40 }
         ensures pass { SamePass self.old.pass self.new.pass }
-        ensures brings { Brings (generations ticket.now) goal self.old.pass.known.calls self.new.pass.known.calls ((generation, row.0) ∷ []) }
+        ensures brings { InsertsInOrder (generations ticket.now) goal self.old.pass.known.calls self.new.pass.known.calls ((generation, row.0) ∷ []) }
         ensures inserter { IsInserter ticket.now self.new }
         ensures one { self.new.totals.inserts ≡ self.old.totals.inserts + 1 }
     {

@@ -21,11 +21,14 @@ pub struct Received {
 }
 
 impl Model for Received {
-    ghost use Rattle.kk_workers.specs.Headline.{ReceivedView};
+    ghost use Rattle.std.specs.Prelude.{◌≡◌, length};
+    ghost use Rattle.kk_workers.specs.Received.{ReceivedView};
 
     ghost Value = { ReceivedView };
 
     ghost view = { λ r. record { logs = r.logs; answers = r.answers.items; gates = r.gates.items; totals = r.totals } };
+
+    ghost invariant = { λ r. length r.answers.items ≡ r.logs.shape.generations };
 }
 
 impl Received {
@@ -52,11 +55,26 @@ impl Received {
         self.logs.rows(generation)
     }
 
+    /// How many generations there are, numbered from 0. Each has a log and an answer.
+    pub fn generations(&self) -> u32
+        ensures count { result ≡ self.now.logs.shape.generations }
+        ensures one_answer_each { length self.now.answers ≡ result }
+    {
+        self.logs.generations()
+    }
+
     /// The answer of each generation: the message that its rows decode to, if there is one.
     pub fn answers(&self) -> &[Option<Message>]
         ensures { result.now ≡ self.now.answers }
     {
         &self.answers
+    }
+
+    /// The counts of all gates, in their order.
+    pub fn gates(&self) -> &[GateCount]
+        ensures { result.now ≡ self.now.gates }
+    {
+        &self.gates
     }
 
     /// The counts of gate number `i`, counted from 0.

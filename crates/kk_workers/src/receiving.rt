@@ -1,8 +1,9 @@
 //! A receiver: all gates at once, then the closing pass.
 ghost use Rattle.std.specs.Prelude.{◌≡◌, ◌≤◌, length, IfOk, OnOk, OnErr};
 ghost use Rattle.kk_code.specs.Ticket.{generations};
-ghost use Rattle.kk_workers.specs.Headline.{changes, Headline, AddUp};
+ghost use Rattle.kk_workers.specs.Received.{changes, HasOneHistory, AddUp};
 ghost use Rattle.kk_workers.specs.Receiving.{IsReceived};
+ghost use Rattle.kk_workers.specs.declared.running.TheConstants.{MAX_GATES};
 
 use crate::closing::{close_all, decode_all};
 use crate::running::{dismiss, hire, run_all};
@@ -29,14 +30,14 @@ pub fn receive<R: Threads + Sync, G: Gate + Send>(
     gates: &mut Vec<G>,
     plan: &Plan,
 ) -> Result<Received, Alloc>
-    requires few { length gates.old.items ≤ 16 }
+    requires few { length gates.old.items ≤ MAX_GATES }
     requires idle { 1 ≤ plan.now.limits.idle }
     requires most { 1 ≤ plan.now.limits.most }
     ensures err { OnErr result (gates.new.items ≡ gates.old.items) }
     ensures same_gates { OnOk result (length gates.new.items ≡ length gates.old.items) }
     ensures one_count_each { IfOk result (λ received. length received.gates ≡ length gates.old.items) }
     ensures one_answer_each { IfOk result (λ received. length received.answers ≡ generations ticket.now) }
-    ensures headline { IfOk result (Headline ticket.now plan.now (changes G.told gates.old.items gates.new.items)) }
+    ensures one_history { IfOk result (HasOneHistory ticket.now plan.now (changes G.told gates.old.items gates.new.items)) }
     ensures add_up { IfOk result (AddUp ticket.now plan.now (changes G.told gates.old.items gates.new.items)) }
 {
     let received = gather(rt, alloc, ticket, gates, plan)?;
@@ -52,7 +53,7 @@ fn gather<R: Threads + Sync, G: Gate + Send>(
     gates: &mut Vec<G>,
     plan: &Plan,
 ) -> Result<Received, Alloc>
-    requires few { length gates.old.items ≤ 16 }
+    requires few { length gates.old.items ≤ MAX_GATES }
     requires idle { 1 ≤ plan.now.limits.idle }
     requires most { 1 ≤ plan.now.limits.most }
     ensures err { OnErr result (gates.new.items ≡ gates.old.items) }

@@ -54,7 +54,7 @@ pub(crate) fn hire<G: Gate + Send>(
     generations: u32,
 )
     requires founder { founder.old ≡ founder_of table.now (length gates.old.items + 1) 0 [] (length gates.old.items + 1) }
-    requires few { length gates.old.items ≤ 16 }
+    requires few { length gates.old.items ≤ MAX_GATES }
     requires rooms { length rooms.old.items ≡ length gates.old.items }
     requires empty { All (λ room. room.items ≡ replicate generations None) rooms.old.items }
     requires workers { workers.old.items ≡ [] }
@@ -88,7 +88,7 @@ pub(crate) fn dismiss<G: Gate + Send>(
 ) -> Totals
     requires founder { founder.old.table ≡ table.now }
     requires passes { All (λ w. w.pass.table ≡ table.now) workers.old.items }
-    requires few { length workers.old.items ≤ 16 }
+    requires few { length workers.old.items ≤ MAX_GATES }
     requires few_inserts { All (λ w. (w.totals.inserts ≤ 2 ^ 39) × AreWithin w.totals) workers.old.items }
     requires empty { (gates.old.items ≡ []) × (counts.old.items ≡ []) × (kept.old.items ≡ []) × (founder.old.records ≡ []) }
     requires room { (length workers.old.items ≤ vec_capacity gates.old) × (length workers.old.items ≤ vec_capacity counts.old) × (length workers.old.items ≤ vec_capacity kept.old) }

@@ -3,6 +3,7 @@ ghost use Rattle.std.specs.Prelude.{◌≡◌, ◌+◌, ◌≤◌, ◌^◌, [], 
 ghost use Rattle.kk_code.specs.Ticket.{TicketFields, generations};
 ghost use Rattle.kk_table.specs.Table.{shape_of};
 ghost use Rattle.kk_workers.specs.Runs.{IsStation};
+ghost use Rattle.kk_workers.specs.declared.running.TheConstants.{MAX_GATES};
 
 use crate::Worker;
 use crate::worker::{Answers, no_answers};
@@ -34,7 +35,7 @@ pub(crate) struct Station<G> {
 impl<G: Gate> Station<G> {
     /// Takes all memory that a receiver with so many gates needs.
     pub(crate) fn new(alloc: Global, ticket: &Ticket, gates: usize) -> Result<Station<G>, Alloc>
-        requires few { gates ≤ 16 }
+        requires few { gates ≤ MAX_GATES }
         ensures { IfOk result (IsStation ticket.now gates) }
     {
         let (table, mut founder) = GenTable::new(alloc, ticket, gates as u32 + 1)?;

@@ -1,10 +1,11 @@
-//! Worked receivers, over gates in memory and over two gates that wait for each other.
-ghost use Rattle.std.specs.Prelude.{◌≡◌, ◌<◌, ◌≤◌, All, None, IfOk, OnErr, length};
+//! Receivers over gates in memory and over two gates that wait for each other, and a worker by itself.
+ghost use Rattle.std.specs.Prelude.{◌≡◌, ◌<◌, ◌≤◌, None, IfOk, OnErr, length};
 ghost use Rattle.kk_outside.specs.Gate.{FitsGate};
 ghost use Rattle.kk_code.specs.Decoding.{answer};
 ghost use Rattle.kk_code.specs.Ticket.{generations};
 ghost use Rattle.kk_frame.specs.Generation.{rows_of};
-ghost use Rattle.kk_workers.specs.Headline.{changes, all_taken};
+ghost use Rattle.kk_workers.specs.Received.{changes, all_taken};
+ghost use Rattle.kk_workers.specs.declared.running.TheConstants.{MAX_GATES};
 
 use super::*;
 use kk_code::{Message, Ticket};
@@ -12,7 +13,7 @@ use kk_frame::{Ended, GateCount, Limits};
 use kk_outside::{Bytes, Event, Failed, GATE_BYTES, Gate, Got, MemoryGate};
 use kk_rows::Alloc;
 use kk_table::GenTable;
-use std::alloc::{AllocError, Global};
+use std::alloc::Global;
 use std::process::Abort;
 use std::sync::Arc;
 use std::sync::atomic::{AtomicU64, Ordering};
@@ -28,7 +29,7 @@ fn first_message<R: Threads + Sync, G: Gate + Send>(
     gates: &mut Vec<G>,
     limits: Limits,
 ) -> Result<Option<Message>, Alloc>
-    requires few { length gates.old.items ≤ 16 }
+    requires few { length gates.old.items ≤ MAX_GATES }
     requires limits { (1 ≤ limits.idle) × (1 ≤ limits.most) }
     requires some { 0 < generations ticket.now }
     ensures gates { OnErr result (gates.new.items ≡ gates.old.items) }
@@ -42,13 +43,164 @@ fn first_message<R: Threads + Sync, G: Gate + Send>(
     }
 }
 
-/// The ticket of a file of one byte: three generations, and rows of six bits.
-const ONE_BYTE: &str = "kk1:00000001:3:0000000000000003:3:1:1";
+/// What a gate gives: a datagram of data frames, each with its generation and its row, one of END, a quiet or a fault.
+#[derive(Clone, Copy, Drop)]
+enum Given {
+    Rows(&'static [(u8, u8)]),
+    End,
+    Quiet,
+    Fault,
+}
 
-/// The codewords of the symbols 0 and 5 over GF(8) with the modulus X^3 + X + 1, for l = 3 and k = 1.
-const ZERO: [u8; 3] = [8, 16, 32];
+/// The codeword of the symbol 5 over GF(8) with the modulus X^3 + X + 1, for l = 3 and k = 1, in generation 0, and those of
+/// the symbol 0 in generations 1 and 2.
+const FIRST: Given = Given::Rows(&[(0, 13), (0, 17), (0, 34)]);
 
-const FIVE: [u8; 3] = [13, 17, 34];
+const SECOND: Given = Given::Rows(&[(1, 8), (1, 16), (1, 32)]);
+
+const THIRD: Given = Given::Rows(&[(2, 8), (2, 16), (2, 32)]);
+
+/// The last two in one datagram.
+const OTHERS: Given = Given::Rows(&[(1, 8), (1, 16), (1, 32), (2, 8), (2, 16), (2, 32)]);
+
+/// Gates, and what a receiver with this goal leaves of them. A goal of 3 tolerates one injected dimension.
+#[derive(Drop)]
+struct Case {
+    name: &'static str,
+    gates: &'static [&'static [Given]],
+    goal: Option<u32>,
+    /// The symbol of each generation's message.
+    symbols: [Option<u64>; 3],
+    /// The rank of each generation, at least and at most.
+    ranks: [(usize, usize); 3],
+    /// The inserts, and how many are innovative, redundant and late, where threads don't decide it.
+    totals: Option<[u64; 4]>,
+    /// Why each gate ended, and how many datagrams and frames it gave.
+    ends: &'static [(Ended, u64, u64)],
+}
+
+const CASES: &[Case] = &[
+    Case {
+        name: "three gates bring three generations",
+        gates: &[&[], &[FIRST, SECOND, Given::Fault], &[THIRD, Given::End]],
+        goal: None,
+        symbols: [Some(5), Some(0), Some(0)],
+        ranks: [(3, 3), (3, 3), (3, 3)],
+        totals: Some([9, 9, 0, 0]),
+        ends: &[
+            (Ended::Over, 0, 0),
+            (Ended::Fault, 2, 6),
+            (Ended::End, 2, 3),
+        ],
+    },
+    Case {
+        name: "a generation that nobody brings has no answer",
+        gates: &[&[], &[FIRST, SECOND, Given::Fault], &[Given::End]],
+        goal: None,
+        symbols: [Some(5), Some(0), None],
+        ranks: [(3, 3), (3, 3), (0, 0)],
+        totals: Some([6, 6, 0, 0]),
+        ends: &[
+            (Ended::Over, 0, 0),
+            (Ended::Fault, 2, 6),
+            (Ended::End, 1, 0),
+        ],
+    },
+    Case {
+        name: "rows that come twice are redundant",
+        gates: &[
+            &[FIRST, Given::Quiet],
+            &[FIRST, Given::Rows(&[(0, 28), (0, 0), (0, 13)])],
+        ],
+        goal: None,
+        symbols: [Some(5), None, None],
+        ranks: [(3, 3), (0, 0), (0, 0)],
+        totals: Some([9, 3, 6, 0]),
+        ends: &[(Ended::Over, 1, 3), (Ended::Over, 2, 6)],
+    },
+    Case {
+        name: "a row after the goal is late",
+        gates: &[&[
+            Given::Rows(&[(0, 13)]),
+            Given::Rows(&[(0, 17)]),
+            Given::Rows(&[(0, 34)]),
+            Given::Rows(&[(0, 1)]),
+            OTHERS,
+        ]],
+        goal: Some(3),
+        symbols: [Some(5), Some(0), Some(0)],
+        ranks: [(3, 3), (3, 3), (3, 3)],
+        totals: Some([10, 9, 0, 1]),
+        ends: &[(Ended::Over, 5, 10)],
+    },
+    Case {
+        name: "an injected row within the goal is corrected",
+        gates: &[&[
+            Given::Rows(&[(0, 1)]),
+            Given::Rows(&[(0, 13)]),
+            Given::Rows(&[(0, 17)]),
+            Given::Rows(&[(0, 34)]),
+            OTHERS,
+        ]],
+        goal: Some(3),
+        symbols: [Some(5), Some(0), Some(0)],
+        ranks: [(3, 3), (3, 3), (3, 3)],
+        totals: Some([10, 9, 0, 1]),
+        ends: &[(Ended::Over, 5, 10)],
+    },
+    Case {
+        name: "two gates bring the rows of one generation to the goal",
+        gates: &[
+            &[Given::Rows(&[(0, 13)]), Given::Rows(&[(0, 1)]), SECOND],
+            &[Given::Rows(&[(0, 17)]), Given::Rows(&[(0, 34)]), THIRD],
+        ],
+        goal: Some(3),
+        symbols: [Some(5), Some(0), Some(0)],
+        ranks: [(3, 4), (3, 3), (3, 3)],
+        totals: None,
+        ends: &[(Ended::Over, 3, 5), (Ended::Over, 3, 5)],
+    },
+];
+
+/// Two gates that wait for each other, each after so many answers. A receiver that asked one gate after the other would find
+/// the first alone, and one that inserted when its gates have ended would count other rows as late.
+const MEETINGS: &[(&[u32], Case)] = &[
+    (
+        &[0, 0],
+        Case {
+            name: "gates are asked at once",
+            gates: &[&[FIRST, SECOND], &[THIRD, Given::End]],
+            goal: None,
+            symbols: [Some(5), Some(0), Some(0)],
+            ranks: [(3, 3), (3, 3), (3, 3)],
+            totals: Some([9, 9, 0, 0]),
+            ends: &[(Ended::Over, 2, 6), (Ended::End, 2, 3)],
+        },
+    ),
+    (
+        &[1, 3],
+        Case {
+            name: "generations are frozen while gates are asked",
+            gates: &[
+                &[
+                    Given::Rows(&[(2, 8), (2, 16), (2, 32), (0, 13), (0, 17), (0, 34)]),
+                    Given::Rows(&[(1, 8)]),
+                ],
+                &[
+                    Given::Rows(&[(1, 8)]),
+                    Given::Rows(&[(1, 16)]),
+                    Given::Rows(&[(1, 32)]),
+                    Given::Rows(&[(0, 13)]),
+                ],
+            ],
+            goal: Some(3),
+            symbols: [Some(5), Some(0), Some(0)],
+            ranks: [(3, 3), (3, 3), (3, 3)],
+            totals: Some([11, 9, 0, 2]),
+            ends: &[(Ended::Over, 2, 7), (Ended::Over, 4, 4)],
+        },
+    ),
+];
 
 /// A frame of session 1 with this kind, generation and row.
 fn frame(kind: u8, generation: u8, row: u8) -> [u8; 20] {
@@ -57,85 +209,91 @@ fn frame(kind: u8, generation: u8, row: u8) -> [u8; 20] {
     ]
 }
 
-/// A datagram with three rows of a generation.
-fn three(alloc: Global, generation: u8, rows: [u8; 3]) -> Result<Event, AllocError>
-    ensures { IfOk result (λ e. FitsGate e) }
-{
-    let [a, b, c] = rows;
-    let frames = [
-        frame(0, generation, a),
-        frame(0, generation, b),
-        frame(0, generation, c),
-    ];
-    Ok(Event::Datagram(Bytes::new(frames.as_flattened().to_vec(alloc)?)))
+/// The frames of these rows, one after the other.
+fn frames_of(alloc: Global, rows: &[(u8, u8)]) -> Result<Vec<u8>, Alloc> {
+    let mut bytes = Vec::new(alloc);
+    for (generation, row) in rows {
+        bytes.extend_from_slice(&frame(0, *generation, *row))?;
+    }
+    Ok(bytes)
 }
 
-/// A datagram with one row of a generation.
-fn one(alloc: Global, generation: u8, row: u8) -> Result<Event, AllocError>
-    ensures { IfOk result (λ e. FitsGate e) }
+/// A datagram of these bytes.
+fn datagram_of(rt: &impl Abort, bytes: Vec<u8>) -> Event
+    ensures { FitsGate result }
 {
-    Ok(Event::Datagram(Bytes::new(frame(0, generation, row).to_vec(alloc)?)))
+    assert!(rt; bytes.len() <= GATE_BYTES);
+    Event::Datagram(Bytes::new(bytes))
 }
 
-/// A datagram with three rows of each of two generations.
-fn six(
-    alloc: Global,
-    first: u8,
-    rows: [u8; 3],
-    second: u8,
-    others: [u8; 3],
-) -> Result<Event, AllocError>
-    ensures { IfOk result (λ e. FitsGate e) }
+/// The event of what is given.
+fn event_of(rt: &impl Abort, alloc: Global, given: &Given) -> Result<Event, Alloc>
+    ensures { IfOk result FitsGate }
 {
-    let [a, b, c] = rows;
-    let [d, e, f] = others;
-    let frames = [
-        frame(0, first, a),
-        frame(0, first, b),
-        frame(0, first, c),
-        frame(0, second, d),
-        frame(0, second, e),
-        frame(0, second, f),
-    ];
-    Ok(Event::Datagram(Bytes::new(frames.as_flattened().to_vec(alloc)?)))
+    match given {
+        Given::Rows(rows) => Ok(datagram_of(rt, frames_of(alloc, rows)?)),
+        Given::End => Ok(datagram_of(rt, frame(1, 0, 0).to_vec(alloc)?)),
+        Given::Quiet => Ok(Event::Quiet),
+        Given::Fault => Ok(Event::Fault),
+    }
 }
 
-/// A datagram with END.
-fn end(alloc: Global) -> Result<Event, AllocError>
-    ensures { IfOk result (λ e. FitsGate e) }
-{
-    Ok(Event::Datagram(Bytes::new(frame(1, 0, 0).to_vec(alloc)?)))
+/// A gate that gives these, in order.
+fn gate_of(rt: &impl Abort, alloc: Global, given: &[Given]) -> Result<MemoryGate, Alloc> {
+    let mut events = Vec::new(alloc);
+    for each in given {
+        events.push(event_of(rt, alloc, each)?)?;
+    }
+    Ok(MemoryGate::new(events))
 }
 
-/// A plan without a goal, with limits that nothing here reaches.
-fn patient() -> Plan
+/// Gates that give these.
+fn gates_of(rt: &impl Abort, alloc: Global, given: &[&[Given]]) -> Result<Vec<MemoryGate>, Alloc> {
+    let mut gates = Vec::new(alloc);
+    for each in given {
+        gates.push(gate_of(rt, alloc, each)?)?;
+    }
+    Ok(gates)
+}
+
+/// The ticket of a file of one byte: three generations, and rows of six bits.
+fn ticket_of_one_byte(rt: &impl Abort) -> Result<Ticket, Fail>
+    ensures { IfOk result (λ t. generations t ≡ 3) }
+{
+    let ticket = Ticket::read("kk1:00000001:3:0000000000000003:3:1:1")?;
+    assert_eq!(rt; ticket.generations(), 3);
+    Ok(ticket)
+}
+
+/// A plan with this goal, and limits that nothing here reaches.
+fn plan_of(goal: Option<u32>) -> Plan
     ensures { (1 ≤ result.limits.idle) × (1 ≤ result.limits.most) }
 {
-    Plan {
-        limits: Limits {
-            idle: 300,
-            most: 10_000_000,
-        },
-        goal: None,
+    let limits = Limits {
+        idle: 300,
+        most: 10_000_000,
+    };
+    Plan { limits, goal }
+}
+
+/// Whether the message has this symbol alone, or there is neither.
+fn is_answer(message: &Option<Message>, symbol: Option<u64>) -> bool {
+    match (message, symbol) {
+        (Some(message), Some(symbol)) => message.symbols() == [symbol].as_slice(),
+        (None, None) => true,
+        _ => false,
     }
 }
 
-/// The same with the goal of a code with k = 1 that tolerates one injected dimension.
-fn tolerant() -> Plan
-    ensures { (1 ≤ result.limits.idle) × (1 ≤ result.limits.most) }
-{
-    Plan {
-        limits: patient().limits,
-        goal: Some(3),
-    }
-}
-
-/// Whether there is a message, and it has this symbol alone.
-fn is_symbol(message: &Option<Message>, symbol: u64) -> bool {
-    match message {
-        Some(message) => message.symbols() == [symbol].as_slice(),
-        None => false,
-    }
+/// Whether the inserts were answered so, where that is said.
+fn are_totals(totals: &Totals, wanted: Option<[u64; 4]>) -> bool {
+    let Totals {
+        inserts,
+        innovative,
+        redundant,
+        late,
+    } = *totals;
+    wanted.is_none_or(|wanted| wanted == [inserts, innovative, redundant, late])
 }
 
 /// Why a gate ended, and how many datagrams and frames it gave.
@@ -143,151 +301,91 @@ fn seen(counts: &GateCount) -> (Option<Ended>, u64, u64) {
     (counts.ended, counts.datagrams, counts.frames)
 }
 
-fn ticket_of_one_byte(rt: &impl Abort) -> Result<Ticket, Fail>
-    ensures { IfOk result (λ t. generations t ≡ 3) }
-{
-    let ticket = Ticket::read(ONE_BYTE)?;
-    assert_eq!(rt; ticket.generations(), 3);
-    Ok(ticket)
+/// Compares what a receiver leaves with what it is to leave.
+fn compare(rt: &impl Abort, received: Received, case: &Case) {
+    let name = case.name;
+    assert_eq!(rt; received.generations(), 3, "{name}");
+    assert_eq!(rt; received.gates().len(), case.ends.len(), "{name}");
+    for (counts, (ended, datagrams, frames)) in received.gates().iter().zip(case.ends) {
+        assert_eq!(rt; seen(counts), (Some(*ended), *datagrams, *frames), "{name}");
+    }
+    for generation in 0..3u32 {
+        let place = generation as usize;
+        let (least, most) = case.ranks[place];
+        let rank = received.log(generation).len();
+        assert!(rt; least <= rank && rank <= most, "{name}");
+        assert!(rt; received.logs().is_closed(generation), "{name}");
+        assert!(rt;
+            is_answer(&received.answers()[place], case.symbols[place]),
+            "{name}"
+        );
+    }
+    assert!(rt; are_totals(&received.totals(), case.totals), "{name}");
 }
 
-/// Three gates: one that has no event, one that fails after two datagrams, and one with these events.
-fn three_gates(alloc: Global, last: Vec<Event>) -> Result<Vec<MemoryGate>, AllocError>
-    requires { All FitsGate last.items }
-    ensures { IfOk result (λ gates. length gates.items ≡ 3) }
-{
-    let middle = Vec::from_array(
-        alloc,
-        [three(alloc, 0, FIVE)?, three(alloc, 1, ZERO)?, Event::Fault],
-    )?;
-    Ok(Vec::from_array(
-        alloc,
-        [
-            MemoryGate::new(Vec::new(alloc)),
-            MemoryGate::new(middle),
-            MemoryGate::new(last),
-        ],
-    )?)
+/// What a receiver of the ticket of one byte with this goal leaves of the gates.
+fn received_of<R: Threads + Abort + Sync, G: Gate + Send>(
+    rt: &R,
+    alloc: Global,
+    gates: &mut Vec<G>,
+    goal: Option<u32>,
+) -> Result<Received, Fail> {
+    let ticket = ticket_of_one_byte(rt)?;
+    assert!(rt; gates.len() <= MAX_GATES);
+    Ok(receive(rt, alloc, &ticket, gates, &plan_of(goal))?)
 }
 
 #[test]
-fn three_gates_bring_three_generations(rt: HostRuntime) -> Result<(), Fail> {
-    let alloc = rt.alloc();
-    let ticket = ticket_of_one_byte(&rt)?;
-    let last = Vec::from_array(alloc, [three(alloc, 2, ZERO)?, end(alloc)?])?;
-    let mut gates = three_gates(alloc, last)?;
-    let received = receive(&rt, alloc, &ticket, &mut gates, &patient())?;
-    assert!(rt; is_symbol(&received.answers()[0], 5));
-    assert!(rt; is_symbol(&received.answers()[1], 0));
-    assert!(rt; is_symbol(&received.answers()[2], 0));
-    assert_eq!(rt; received.log(0).len(), 3);
-    assert_eq!(rt; seen(&received.gate(0)), (Some(Ended::Over), 0, 0));
-    assert_eq!(rt; seen(&received.gate(1)), (Some(Ended::Fault), 2, 6));
-    assert_eq!(rt; seen(&received.gate(2)), (Some(Ended::End), 2, 3));
-    assert_eq!(rt;
-        received.totals(),
-        Totals {
-            inserts: 9,
-            innovative: 9,
-            redundant: 0,
-            late: 0,
+fn receivers_of_gates_in_memory(rt: HostRuntime) -> Result<(), Fail> {
+    for case in CASES {
+        let mut gates = gates_of(&rt, rt.alloc(), case.gates)?;
+        let received = received_of(&rt, rt.alloc(), &mut gates, case.goal)?;
+        compare(&rt, received, case);
+        for (gate, (ended, _, _)) in gates.iter().zip(case.ends) {
+            assert_eq!(rt;
+                gate.faults(),
+                u64::from(*ended == Ended::Fault),
+                "{}",
+                case.name
+            );
         }
-    );
-    assert_eq!(rt; gates.len(), 3);
-    assert_eq!(rt; gates[0].faults(), 0);
-    assert_eq!(rt; gates[1].faults(), 1);
-    assert!(rt; received.logs().is_closed(2));
-    let logs = received.into_logs();
-    assert_eq!(rt; logs.rows(2).len(), 3);
+    }
     Ok(())
 }
 
-#[test]
-fn generation_that_nobody_brings_has_no_answer(rt: HostRuntime) -> Result<(), Fail> {
-    let alloc = rt.alloc();
-    let ticket = ticket_of_one_byte(&rt)?;
-    let last = Vec::from_array(alloc, [end(alloc)?])?;
-    let mut gates = three_gates(alloc, last)?;
-    let received = receive(&rt, alloc, &ticket, &mut gates, &patient())?;
-    assert!(rt; is_symbol(&received.answers()[0], 5));
-    assert!(rt; received.answers()[2].is_none());
-    assert_eq!(rt; received.log(2).len(), 0);
-    Ok(())
-}
-
-#[test]
-fn rows_that_come_twice_are_redundant(rt: HostRuntime) -> Result<(), Fail> {
-    let alloc = rt.alloc();
-    let ticket = ticket_of_one_byte(&rt)?;
-    let one = Vec::from_array(alloc, [three(alloc, 0, FIVE)?, Event::Quiet])?;
-    let other = Vec::from_array(
-        alloc,
-        [three(alloc, 0, FIVE)?, three(alloc, 0, [28, 0, 13])?],
-    )?;
-    let mut gates = Vec::from_array(alloc, [MemoryGate::new(one), MemoryGate::new(other)])?;
-    let received = receive(&rt, alloc, &ticket, &mut gates, &patient())?;
-    assert_eq!(rt;
-        received.totals(),
-        Totals {
-            inserts: 9,
-            innovative: 3,
-            redundant: 6,
-            late: 0,
-        }
-    );
-    Ok(())
-}
+/// No gate, and one that has no event.
+const NO_ROWS: &[&[&[Given]]] = &[&[], &[&[]]];
 
 #[test]
 fn file_of_no_bytes_has_no_generation(rt: HostRuntime) -> Result<(), Fail> {
-    let alloc = rt.alloc();
     let ticket = Ticket::read("kk1:00000001:3:0000000000000003:3:1:0")?;
-    let mut gates = Vec::from_array(alloc, [MemoryGate::new(Vec::new(alloc))])?;
-    let received = receive(&rt, alloc, &ticket, &mut gates, &patient())?;
-    assert_eq!(rt; received.answers().len(), 0);
-    let mut none: Vec<MemoryGate> = Vec::new(alloc);
-    let received = receive(&rt, alloc, &ticket, &mut none, &patient())?;
-    assert_eq!(rt; received.totals().inserts, 0);
+    for given in NO_ROWS {
+        let mut gates = gates_of(&rt, rt.alloc(), given)?;
+        assert!(rt; gates.len() <= MAX_GATES);
+        let received = receive(&rt, rt.alloc(), &ticket, &mut gates, &plan_of(None))?;
+        assert_eq!(rt; received.answers().len(), 0);
+        assert_eq!(rt; received.totals().inserts, 0);
+    }
     Ok(())
 }
 
 #[test]
 fn first_message_of_one_gate(rt: HostRuntime) -> Result<(), Fail> {
-    let alloc = rt.alloc();
     let ticket = ticket_of_one_byte(&rt)?;
-    let events = Vec::from_array(alloc, [three(alloc, 0, [9, 18, 8])?])?;
-    let mut gates = Vec::from_array(alloc, [MemoryGate::new(events)])?;
-    let message = first_message(&rt, alloc, &ticket, &mut gates, patient().limits)?;
-    assert!(rt; is_symbol(&message, 1));
+    let mut gates = gates_of(
+        &rt,
+        rt.alloc(),
+        &[&[Given::Rows(&[(0, 9), (0, 18), (0, 8)])]],
+    )?;
+    assert!(rt; gates.len() <= MAX_GATES);
+    let limits = plan_of(None).limits;
+    let message = first_message(&rt, rt.alloc(), &ticket, &mut gates, limits)?;
+    assert!(rt; is_answer(&message, Some(1)));
     Ok(())
 }
 
-#[test]
-fn worker_by_itself(rt: HostRuntime) -> Result<(), Fail> {
-    let alloc = rt.alloc();
-    let ticket = ticket_of_one_byte(&rt)?;
-    let (table, mut founder) = GenTable::new(alloc, &ticket, 1)?;
-    let Ok(pass) = founder.pass(alloc, &table) else {
-        return Err(Alloc)?;
-    };
-    let events = Vec::from_array(alloc, [three(alloc, 1, ZERO)?, end(alloc)?])?;
-    let Ok(mut worker) = Worker::new(alloc, pass, MemoryGate::new(events), &ticket) else {
-        return Err(Alloc)?;
-    };
-    assert_eq!(rt; seen(&worker.counts()), (None, 0, 0));
-    work(&mut worker, &table, &ticket, &patient());
-    assert_eq!(rt; seen(&worker.counts()), (Some(Ended::End), 2, 3));
-    assert!(rt; worker.answer(1).is_none());
-    let (pass, gate) = worker.into_parts();
-    assert_eq!(rt; pass.rows_seen(1).len(), 3);
-    assert_eq!(rt; gate.faults(), 0);
-    founder.take_back(&table, pass);
-    assert_eq!(rt; founder.out(), 0);
-    Ok(())
-}
-
-/// A gate that gives some answers, and waits before the next until another such gate waits, too. It is over where that doesn't
-/// come.
+/// A gate that doesn't tell what it has left. It gives some answers, and waits before the next until another such gate waits,
+/// too.
 #[derive(Drop)]
 struct Meeting {
     begun: Arc<AtomicU64, Global>,
@@ -298,7 +396,7 @@ struct Meeting {
 }
 
 impl Gate for Meeting {
-    ghost told = { λ g. record { left = None; events = g.events.events; faults = g.events.faults } };
+    ghost told = { λ g. record { left = None; events = g.events.events; overs = g.events.overs; faults = g.events.faults } };
 
     fn next(&mut self, buf: &mut [u8; GATE_BYTES]) -> Result<Got, Failed> {
         if self.answers > 0 {
@@ -307,9 +405,6 @@ impl Gate for Meeting {
             self.met = true;
             self.begun.fetch_add(1, Ordering::SeqCst);
             self.alone = !meets(&self.begun);
-        }
-        if self.alone {
-            return Ok(Got::Over);
         }
         self.events.next(buf)
     }
@@ -326,195 +421,71 @@ fn meets(begun: &Arc<AtomicU64, Global>) -> bool {
     false
 }
 
-/// A gate with these events that waits after so many answers.
-fn meeting_of(
-    begun: &Arc<AtomicU64, Global>,
-    answers: u32,
-    events: Vec<Event>,
-) -> Result<Meeting, AllocError>
-    requires { All FitsGate events.items }
-{
-    Ok(Meeting {
-        begun: Arc::try_clone(begun)?,
-        answers,
-        met: false,
-        alone: false,
-        events: MemoryGate::new(events),
-    })
-}
-
-#[test]
-fn gates_are_asked_at_once(rt: HostRuntime) -> Result<(), Fail> {
-    let alloc = rt.alloc();
-    let ticket = ticket_of_one_byte(&rt)?;
+/// Gates that wait for each other, each after so many answers, and give these.
+fn meetings_of(
+    rt: &impl Abort,
+    alloc: Global,
+    given: &[&[Given]],
+    answers: &[u32],
+) -> Result<Vec<Meeting>, Alloc> {
     let begun = Arc::new(alloc, AtomicU64::new(0))?;
-    let first = Vec::from_array(alloc, [three(alloc, 0, FIVE)?, three(alloc, 1, ZERO)?])?;
-    let second = Vec::from_array(alloc, [three(alloc, 2, ZERO)?, end(alloc)?])?;
-    let mut gates = Vec::from_array(
-        alloc,
-        [
-            meeting_of(&begun, 0, first)?,
-            meeting_of(&begun, 0, second)?,
-        ],
-    )?;
-    let received = receive(&rt, alloc, &ticket, &mut gates, &patient())?;
-    for gate in &gates {
-        assert!(rt; gate.met && !gate.alone);
+    let mut gates = Vec::new(alloc);
+    for (each, answers) in given.iter().zip(answers) {
+        gates.push(Meeting {
+            begun: Arc::try_clone(&begun)?,
+            answers: *answers,
+            met: false,
+            alone: false,
+            events: gate_of(rt, alloc, each)?,
+        })?;
     }
-    for answer in received.answers() {
-        assert!(rt; answer.is_some());
+    Ok(gates)
+}
+
+#[test]
+fn receivers_of_gates_that_wait_for_each_other(rt: HostRuntime) -> Result<(), Fail> {
+    for (answers, case) in MEETINGS {
+        let mut gates = meetings_of(&rt, rt.alloc(), case.gates, answers)?;
+        let received = received_of(&rt, rt.alloc(), &mut gates, case.goal)?;
+        compare(&rt, received, case);
+        for gate in &gates {
+            assert!(rt; gate.met && !gate.alone, "{}", case.name);
+        }
     }
-    assert_eq!(rt; received.totals().innovative, 9);
     Ok(())
 }
 
-/// Whether the generations have the symbols 5, 0 and 0, and ranks of 3.
-fn is_all(received: &Received) -> bool
-    requires { (length received.now.answers ≡ 3) × (received.now.logs.shape.generations ≡ 3) }
-{
-    let answers = received.answers();
-    is_symbol(&answers[0], 5)
-        && is_symbol(&answers[1], 0)
-        && is_symbol(&answers[2], 0)
-        && received.log(0).len() == 3
-        && received.log(1).len() == 3
-        && received.log(2).len() == 3
-}
-
-/// A gate with these rows of generation 0, one a datagram, and then the others.
-fn gate_of(alloc: Global, rows: [u8; 4]) -> Result<Vec<MemoryGate>, AllocError>
-    ensures { IfOk result (λ gates. length gates.items ≡ 1) }
-{
-    let [a, b, c, d] = rows;
-    let events = Vec::from_array(
-        alloc,
-        [
-            one(alloc, 0, a)?,
-            one(alloc, 0, b)?,
-            one(alloc, 0, c)?,
-            one(alloc, 0, d)?,
-            six(alloc, 1, ZERO, 2, ZERO)?,
-        ],
-    )?;
-    Ok(Vec::from_array(alloc, [MemoryGate::new(events)])?)
-}
-
-/// Ten inserts, of which one came after its generation was frozen.
-const ONE_LATE: Totals = Totals {
-    inserts: 10,
-    innovative: 9,
-    redundant: 0,
-    late: 1,
-};
-
-#[test]
-fn row_after_the_goal_is_late(rt: HostRuntime) -> Result<(), Fail> {
-    let alloc = rt.alloc();
-    let ticket = ticket_of_one_byte(&rt)?;
-    let mut gates = gate_of(alloc, [13, 17, 34, 1])?;
-    let received = receive(&rt, alloc, &ticket, &mut gates, &tolerant())?;
-    assert!(rt; is_all(&received));
-    assert_eq!(rt; received.totals(), ONE_LATE);
-    Ok(())
-}
-
-#[test]
-fn injected_row_within_the_goal_is_corrected(rt: HostRuntime) -> Result<(), Fail> {
-    let alloc = rt.alloc();
-    let ticket = ticket_of_one_byte(&rt)?;
-    let mut gates = gate_of(alloc, [1, 13, 17, 34])?;
-    let received = receive(&rt, alloc, &ticket, &mut gates, &tolerant())?;
-    assert!(rt; is_all(&received));
-    assert_eq!(rt; received.totals(), ONE_LATE);
-    Ok(())
-}
-
-#[test]
-fn worker_keeps_what_it_froze(rt: HostRuntime) -> Result<(), Fail> {
-    let alloc = rt.alloc();
-    let ticket = ticket_of_one_byte(&rt)?;
+/// Lets a worker by itself bring three rows of generation 0 and one of generation 1. It freezes generation 0 at the goal of 3,
+/// and none where there is no goal.
+fn expect_worker(rt: &impl Abort, alloc: Global, goal: Option<u32>) -> Result<(), Fail> {
+    let ticket = ticket_of_one_byte(rt)?;
+    let gate = gate_of(rt, alloc, &[FIRST, Given::Rows(&[(1, 8)]), Given::End])?;
     let (table, mut founder) = GenTable::new(alloc, &ticket, 1)?;
     let Ok(pass) = founder.pass(alloc, &table) else {
         return Err(Alloc)?;
     };
-    let events = Vec::from_array(alloc, [three(alloc, 0, FIVE)?, one(alloc, 1, 8)?])?;
-    let Ok(mut worker) = Worker::new(alloc, pass, MemoryGate::new(events), &ticket) else {
+    let Ok(mut worker) = Worker::new(alloc, pass, gate, &ticket) else {
         return Err(Alloc)?;
     };
-    work(&mut worker, &table, &ticket, &tolerant());
-    let Some(answer) = worker.answer(0) else {
-        return Err(Alloc)?;
-    };
-    assert!(rt; is_symbol(&answer, 5));
+    assert_eq!(rt; seen(&worker.counts()), (None, 0, 0));
+    work(&mut worker, &table, &ticket, &plan_of(goal));
+    assert_eq!(rt; seen(&worker.counts()), (Some(Ended::End), 3, 4));
+    let answer = worker.answer(0);
+    assert_eq!(rt; answer.is_some(), goal.is_some());
+    assert!(rt; answer.is_none_or(|answer| is_answer(&answer, Some(5))));
     assert!(rt; worker.answer(1).is_none());
-    let (pass, _gate) = worker.into_parts();
-    assert!(rt; pass.known_closed(0));
+    let (pass, gate) = worker.into_parts();
+    assert_eq!(rt; pass.known_closed(0), goal.is_some());
     assert!(rt; !pass.known_closed(1));
+    assert_eq!(rt; (pass.rows_seen(0).len(), pass.rows_seen(1).len()), (3, 1));
+    assert_eq!(rt; gate.faults(), 0);
+    founder.take_back(&table, pass);
+    assert_eq!(rt; founder.out(), 0);
     Ok(())
 }
 
 #[test]
-fn goal_over_two_gates(rt: HostRuntime) -> Result<(), Fail> {
-    let alloc = rt.alloc();
-    let ticket = ticket_of_one_byte(&rt)?;
-    let first = Vec::from_array(
-        alloc,
-        [
-            one(alloc, 0, 13)?,
-            one(alloc, 0, 1)?,
-            three(alloc, 1, ZERO)?,
-        ],
-    )?;
-    let second = Vec::from_array(
-        alloc,
-        [
-            one(alloc, 0, 17)?,
-            one(alloc, 0, 34)?,
-            three(alloc, 2, ZERO)?,
-        ],
-    )?;
-    let mut gates = Vec::from_array(alloc, [MemoryGate::new(first), MemoryGate::new(second)])?;
-    let received = receive(&rt, alloc, &ticket, &mut gates, &tolerant())?;
-    assert!(rt; is_symbol(&received.answers()[0], 5));
-    assert!(rt; is_symbol(&received.answers()[1], 0));
-    assert!(rt; is_symbol(&received.answers()[2], 0));
-    let rank = received.log(0).len();
-    assert!(rt; rank == 3 || rank == 4);
-    Ok(())
-}
-
-#[test]
-fn generations_are_frozen_while_gates_are_asked(rt: HostRuntime) -> Result<(), Fail> {
-    let alloc = rt.alloc();
-    let ticket = ticket_of_one_byte(&rt)?;
-    let begun = Arc::new(alloc, AtomicU64::new(0))?;
-    let first = Vec::from_array(alloc, [six(alloc, 2, ZERO, 0, FIVE)?, one(alloc, 1, 8)?])?;
-    let second = Vec::from_array(
-        alloc,
-        [
-            one(alloc, 1, 8)?,
-            one(alloc, 1, 16)?,
-            one(alloc, 1, 32)?,
-            one(alloc, 0, 13)?,
-        ],
-    )?;
-    let mut gates = Vec::from_array(
-        alloc,
-        [
-            meeting_of(&begun, 1, first)?,
-            meeting_of(&begun, 3, second)?,
-        ],
-    )?;
-    let received = receive(&rt, alloc, &ticket, &mut gates, &tolerant())?;
-    assert!(rt; is_all(&received));
-    assert_eq!(rt;
-        received.totals(),
-        Totals {
-            inserts: 11,
-            innovative: 9,
-            redundant: 0,
-            late: 2,
-        }
-    );
-    Ok(())
+fn worker_by_itself(rt: HostRuntime) -> Result<(), Fail> {
+    expect_worker(&rt, rt.alloc(), None)?;
+    expect_worker(&rt, rt.alloc(), Some(3))
 }

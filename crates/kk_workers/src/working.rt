@@ -1,55 +1,22 @@
 //! What a worker does: it asks its gate until that ends, and inserts what it gives.
-ghost use Rattle.std.specs.Prelude.{◌≡◌, ◌^◌, ◌<◌, ◌≤◌, ◌*◌, ◌+◌, ◌↔◌, [], true, length, replicate, All, None, Some};
+ghost use Rattle.std.specs.Prelude.{◌≡◌, ◌^◌, ◌≤◌, ◌↔◌, [], length, replicate, None, Some};
 ghost use Rattle.kk_outside.specs.Causes.{CanCount};
 ghost use Rattle.kk_outside.specs.Change.{change};
+ghost use Rattle.kk_outside.specs.Gate.{GateFailed};
 ghost use Rattle.kk_code.specs.Ticket.{generations};
 ghost use Rattle.kk_frame.specs.declared.gate_count.Ended.TheVariants.{Fault};
-ghost use Rattle.kk_frame.specs.Intake.{IsIntake, is_running, calls_left};
+ghost use Rattle.kk_frame.specs.Asking.{FaultCause};
 ghost use Rattle.kk_table.specs.Table.{shape_of};
 ghost use Rattle.kk_workers.specs.Totals.{no_totals};
-ghost use Rattle.kk_outside.specs.Gate.{GateFailed};
-ghost use Rattle.kk_workers.specs.Works.{SamePass, AreAnswers, Worked, FaultCause};
-ghost use Rattle.kk_workers.specs.Working.{AreTotals, IsInserter, Asked};
+ghost use Rattle.kk_workers.specs.WorkerCalls.{SamePass, AreAnswers, WasWorkedOff};
+ghost use Rattle.kk_workers.specs.WorkerLoop.{AreTotals};
 
-use crate::inserter::Inserter;
 use crate::{Plan, Worker};
 use kk_code::Ticket;
 use kk_decode::Scratch;
 use kk_frame::Intake;
-use kk_outside::{GATE_BYTES, Gate, Got};
+use kk_outside::{GATE_BYTES, Gate};
 use kk_table::GenTable;
-
-/// Asks the gate once, and makes all calls that follow from its answer.
-fn ask<G: Gate>(
-    gate: &mut G,
-    inserter: &mut Inserter,
-    intake: &mut Intake,
-    table: &GenTable,
-    ticket: &Ticket,
-    goal: Option<u32>,
-    buf: &mut [u8; GATE_BYTES],
-    scratch: &mut Scratch,
-)
-    requires table { inserter.old.pass.table ≡ table.now }
-    requires shape { table.now.shape ≡ shape_of ticket.now }
-    requires runs { is_running intake.old ≡ true }
-    requires inserter { IsInserter ticket.now inserter.old }
-    requires few { inserter.old.totals.inserts ≤ 2 ^ 39 }
-    ensures pass { SamePass inserter.old.pass inserter.new.pass }
-    ensures asked { Asked ticket.now goal (change (G.told gate.old) (G.told gate.new)) intake.old intake.new inserter.old.pass.known.calls inserter.new.pass.known.calls }
-    ensures inserter { IsInserter ticket.now inserter.new }
-    ensures cause { FaultCause (change (G.told gate.old) (G.told gate.new)) intake.new.counts }
-{
-    match gate.next(buf) {
-        Ok(Got::Datagram(len)) => {
-            let batch = intake.datagram(&buf[..len], ticket);
-            inserter.insert_all(table, ticket, goal, &batch, scratch);
-        }
-        Ok(Got::Quiet) => intake.quiet(),
-        Ok(Got::Over) => intake.over(),
-        Err(_) => intake.fault(),
-    }
-}
 
 /// Asks the gate of a worker until it has ended, and inserts what it gives through the pass of the worker, datagram by
 /// datagram. With a goal it freezes a generation as soon as one of its inserts is told the goal as rank, and decodes it. It
@@ -63,7 +30,7 @@ pub fn work<G: Gate + Send>(worker: &mut Worker<G>, table: &GenTable, ticket: &T
     requires idle { 1 ≤ plan.now.limits.idle }
     requires most { 1 ≤ plan.now.limits.most }
     ensures pass { SamePass worker.old.pass worker.new.pass }
-    ensures worked { Worked ticket.now plan.now (change (G.told worker.old.gate) (G.told worker.new.gate)) worker.new.counts worker.new.pass.known.calls }
+    ensures worked { WasWorkedOff ticket.now plan.now (change (G.told worker.old.gate) (G.told worker.new.gate)) worker.new.counts worker.new.pass.known.calls }
     ensures totals { AreTotals worker.new.totals worker.new.pass.known.calls }
     ensures few { worker.new.totals.inserts ≤ 2 ^ 39 }
     ensures answers { AreAnswers ticket.now.code worker.new.pass.known worker.new.answers }
@@ -76,16 +43,10 @@ pub fn work<G: Gate + Send>(worker: &mut Worker<G>, table: &GenTable, ticket: &T
     let mut scratch = Scratch::new();
     let mut intake = Intake::new(plan.limits);
     while intake.runs() {
-        ask(
-            &mut worker.gate,
-            &mut worker.inserter,
-            &mut intake,
-            table,
-            ticket,
-            plan.goal,
-            &mut buf,
-            &mut scratch,
-        );
+        let frames = intake.ask(&mut worker.gate, &mut buf, ticket);
+        worker
+            .inserter
+            .insert_frames(table, ticket, plan.goal, &frames, &mut scratch);
     }
     worker.counts = intake.counts();
 }

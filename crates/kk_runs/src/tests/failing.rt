@@ -1,10 +1,8 @@
 //! Each call outside fails in turn: the status, and what the sinks hold then.
-use super::{
-    FIVE, ONE_BYTE, SEVEN, Setting, ZERO, capture, expect, front, outcome_of, sink_of, source_of,
-    texts, unfailing,
-};
+use super::{Setting, expect, front, outcome_of, sink_of, source_of, unfailing};
 use kk_outside::Alloc;
 use kk_top::run_pack;
+use kk_worked::{FIVE, ONE_BYTE, SEVEN, ZERO, capture, texts};
 use std::alloc::Global;
 use std::process::Abort;
 use std::test::Fail;

@@ -5,11 +5,11 @@
 ghost use Rattle.std.specs.Prelude.{◌≡◌, ◌≤◌, IfOk, length};
 ghost use Rattle.kk_outside.specs.Gate.{FitsGate};
 
-use super::{FIVE, ONE_BYTE, ZERO, capture, frame, texts};
 use kk_outside::{
     Bytes, Event, GATE_BYTES, Gate, Got, MemoryGate, MemoryOutlet, MemorySink, MemorySource, fill,
 };
 use kk_top::{run_pack, run_recv, run_relay, run_send, run_unpack};
+use kk_worked::{FIVE, ONE_BYTE, ZERO, ZEROS, capture, frame, texts};
 use std::alloc::{AllocError, Global};
 use std::process::Abort;
 use std::test::Fail;
@@ -153,9 +153,6 @@ fn pack_finds_memory(rt: HostRuntime) -> Result<(), Fail> {
     assert_eq!(rt; packed(rt.alloc())?, PACKED);
     Ok(())
 }
-
-/// A seed of zeros.
-const ZEROS: &str = "0000000000000000000000000000000000000000000000000000000000000000";
 
 /// A datagram with nine rows and six combinations, and END.
 const SENT: Left = Left {

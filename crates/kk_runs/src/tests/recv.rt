@@ -2,8 +2,9 @@
 ghost use Rattle.std.specs.Prelude.{◌≡◌, IfOk, None, length};
 ghost use Rattle.kk_outside.specs.Gate.{FitsGate};
 
-use super::{ONE_BYTE, Outcome, Setting, expect, frame, outcome_over, unfailing};
+use super::{Outcome, Setting, expect, outcome_over, unfailing};
 use kk_outside::{Alloc, Bytes, Event, Failed, GATE_BYTES, Gate, Got, MemoryGate};
+use kk_worked::{ONE_BYTE, frame};
 use std::alloc::Global;
 use std::process::Abort;
 use std::sync::Arc;
@@ -463,7 +464,7 @@ fn one_injected_row_at_two_gates(rt: HostRuntime) -> Result<(), Fail> {
 }
 
 /// A gate that doesn't tell what it has left. It gives some answers, and waits before the next until another such gate waits,
-/// too. It is over for good where that doesn't come.
+/// too. It notes where that doesn't come.
 #[derive(Drop)]
 struct Meeting {
     begun: Arc<AtomicU64, Global>,
@@ -474,7 +475,7 @@ struct Meeting {
 }
 
 impl Gate for Meeting {
-    ghost told = { λ g. record { left = None; events = g.events.events; faults = g.events.faults } };
+    ghost told = { λ g. record { left = None; events = g.events.events; overs = g.events.overs; faults = g.events.faults } };
 
     fn next(&mut self, buf: &mut [u8; GATE_BYTES]) -> Result<Got, Failed> {
         if self.answers > 0 {
@@ -483,9 +484,6 @@ impl Gate for Meeting {
             self.met = true;
             self.begun.fetch_add(1, Ordering::SeqCst);
             self.alone = !meets(&self.begun);
-        }
-        if self.alone {
-            return Ok(Got::Over);
         }
         self.events.next(buf)
     }
@@ -532,7 +530,7 @@ fn two_meetings(
     Ok(Vec::from_array(alloc, [one, other])?)
 }
 
-/// Runs by these words over two gates that wait for each other.
+/// Runs by these words over two gates that wait for each other, neither of them in vain.
 fn met<R: Threads + Abort + Sync>(
     rt: &R,
     alloc: Global,
@@ -541,7 +539,11 @@ fn met<R: Threads + Abort + Sync>(
     second: (u32, &[Given]),
 ) -> Result<Outcome, Alloc> {
     let mut gates = two_meetings(rt, alloc, first, second)?;
-    outcome_over(rt, alloc, &unfailing(words, &[]), &mut gates)
+    let outcome = outcome_over(rt, alloc, &unfailing(words, &[]), &mut gates)?;
+    for gate in &gates {
+        assert!(rt; gate.met && !gate.alone);
+    }
+    Ok(outcome)
 }
 
 /// The words of a receiver with two gates, and of one that tolerates an injected dimension.
@@ -549,7 +551,7 @@ const TWO: &[&str] = &["recv", ONE_BYTE, AT, "127.0.0.1:9001"];
 
 const TWO_TOLERANT: &[&str] = &["recv", ONE_BYTE, AT, "127.0.0.1:9001", "--tolerate", "1"];
 
-/// A receiver that asks one gate after the other would find the first alone, and answer 3.
+/// A receiver that asks one gate after the other would leave the first to wait in vain.
 #[test]
 fn gates_are_asked_at_once(rt: HostRuntime) -> Result<(), Fail> {
     let outcome = met(

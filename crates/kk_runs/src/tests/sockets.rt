@@ -1,9 +1,10 @@
 //! A sender and a receiver over real sockets.
 ghost use Rattle.std.specs.Prelude.{◌≡◌, IfOk, length};
 
-use super::{expect, outcome_over, sink_of, source_of, texts, unfailing};
+use super::{expect, outcome_over, sink_of, source_of, unfailing};
 use kk_outside::{Alloc, MemoryGate, UdpGate, UdpOutlet};
 use kk_top::run;
+use kk_worked::{ZEROS, texts};
 use std::alloc::Global;
 use std::net::UdpSocket;
 use std::string::ToString;
@@ -12,9 +13,6 @@ use std::thread::Threads;
 
 /// The ticket of a file of one byte in one generation of three rows.
 const THREE_FRAMES: &str = "kk1:00000001:8:000000000000001b:3:1:1";
-
-/// A seed of zeros.
-const ZEROS: &str = "0000000000000000000000000000000000000000000000000000000000000000";
 
 /// Two gates and an outlet to the first; nothing comes to the second.
 #[derive(Drop)]
@@ -34,8 +32,8 @@ fn free_address(rt: &HostRuntime, alloc: Global) -> Result<String, Fail> {
 fn two_gates(rt: &HostRuntime, alloc: Global, address: &str) -> Result<Vec<UdpGate>, Fail>
     ensures { IfOk result (λ gates. length gates.items ≡ 2) }
 {
-    let first = UdpGate::open(rt, alloc, address)?;
-    let second = UdpGate::open(rt, alloc, "127.0.0.1:0")?;
+    let first = UdpGate::open(rt, address)?;
+    let second = UdpGate::open(rt, "127.0.0.1:0")?;
     Ok(Vec::from_array(alloc, [first, second])?)
 }
 
@@ -44,7 +42,7 @@ fn two_ends(rt: &HostRuntime, alloc: Global) -> Result<Ends, Fail>
 {
     let address = free_address(rt, alloc)?;
     let gates = two_gates(rt, alloc, &address)?;
-    let outlet = UdpOutlet::open(rt, alloc, &address)?;
+    let outlet = UdpOutlet::open(rt, &address)?;
     Ok(Ends {
         address,
         gates,

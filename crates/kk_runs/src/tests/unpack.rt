@@ -1,12 +1,10 @@
 //! `unpack` over sources and sinks in memory.
 ghost use Rattle.std.specs.Prelude.{◌<◌};
 
-use super::{
-    FIVE, ONE_BYTE, Setting, ZERO, capture, expect, frame, front, outcome_of, sink_of, texts,
-    unfailing,
-};
+use super::{Setting, expect, front, outcome_of, sink_of, unfailing};
 use kk_outside::{Alloc, MemoryGate, MemoryOutlet, Source, StdSource};
 use kk_top::run;
+use kk_worked::{FIVE, ONE_BYTE, ZERO, capture, frame, texts};
 use std::alloc::Global;
 use std::io;
 use std::io::Read;

@@ -24,6 +24,6 @@ returns g c =
     let rows : numbers c.as_slice.result.now ≡ passed.result = c.as_slice.ensures.rows in
     let decodes : Decodes p passed.result u = record {
       message = c.requires;
-      near = omega (arith, distance_is_the_loss p code passed.result u, passed.ensures.erased u is, passed.ensures.injected u is);
+      within = omega (arith, distance_is_the_loss p code passed.result u, passed.ensures.erased u is, passed.ensures.injected u is);
     } in
     c.decode.ensures.answer ∙ ap (λ (l : List ℕ). answer p l) rows ∙ answer-of_message p code passed.result u decodes

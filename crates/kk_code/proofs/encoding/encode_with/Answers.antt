@@ -1,4 +1,4 @@
-use Rattle.std.proofs.Common.{◌≡◌, ℕ, ◌^◌, ◌<◌, List, [], ◌∷◌, ◌++◌, length, sym, ap, ◌∙◌, arith}
+use Rattle.std.proofs.Common.{◌≡◌, ℕ, ◌^◌, List, [], ◌∷◌, ◌++◌, length, sym, ap, ◌∙◌, arith}
 use Rattle.kk_linpoly.specs.LinPoly.{value}
 use Rattle.kk_linpoly.proofs.Values.{value-trimmed}
 use Rattle.kk_code.specs.Codeword.{Parameters, row_of, codeword}

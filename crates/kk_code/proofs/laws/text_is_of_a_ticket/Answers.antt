@@ -1,5 +1,5 @@
-use Rattle.kk_code.proofs.Outcomes.{ticket_of}
+use Rattle.kk_code.proofs.Outcomes.{text_is_of_a_ticket}
 use Rattle.kk_code.proofs.laws.text_is_of_a_ticket.Goals as goal
 
 pub returns : goal.returns
-returns c = ticket_of
+returns c = text_is_of_a_ticket

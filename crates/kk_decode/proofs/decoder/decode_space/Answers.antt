@@ -1,21 +1,10 @@
-use Rattle.std.proofs.Common.{◌≡◌, ℕ, ◌+◌, ◌-◌, ◌*◌, ◌^◌, ◌<◌, ◌≤◌, List, ◌++◌, length, map, sym, ap, ◌∙◌, subst, arith}
-use Rattle.std.specs.Prelude.{All}
-use Rattle.std.proofs.lemmas.Bool.{both_ways}
-use Rattle.std.proofs.lemmas.List.{length-map, take-map, drop-map}
-use Rattle.std.proofs.lemmas.List.Elements.{All-take, All-drop}
-use Rattle.kk_rows.specs.declared.rows.Row.{Row}
-use Rattle.kk_rows.specs.Rows.{numbers}
-use Rattle.kk_rows.specs.Span.{dimension}
-use Rattle.kk_rows.specs.Distance.{distance}
-use Rattle.kk_code.specs.Codeword.{codeword, width}
+use Rattle.std.proofs.Common.{ℕ, ◌+◌, ◌*◌, ◌≤◌, List, sym, arith}
+use Rattle.kk_code.specs.Codeword.{width}
 use Rattle.kk_code.specs.Decoding.{Decodes}
 use Rattle.kk_code.proofs.Enumeration.{answer-of_message, answer-of_none}
-use Rattle.kk_decode.specs.Solving.{point_of}
-use Rattle.kk_decode.proofs.Messages.{some_is, none_is_no_some}
-use Rattle.kk_decode.proofs.Members.{near_of_part}
+use Rattle.kk_decode.proofs.Members.{within_of_part}
 use Rattle.kk_decode.proofs.Reach.{rank_in_reach}
-use Rattle.kk_decode.proofs.Rows.{count_rows, points_of_all}
-use Rattle.kk_decode.proofs.Costs.{Sizes, points_cost, division_cost, values_cost, map_fits, all_fits}
+use Rattle.kk_decode.proofs.Costs.{Sizes, map_fits, all_fits}
 use Rattle.kk_decode.proofs.decoder.decode_space.Given.{Over}
 use Rattle.kk_decode.proofs.decoder.decode_space.Goals as goal
 use Rattle.kk_decode.proofs.decoder.decode_space.Goals.{After-renew, In-Some, Joined-then-rank-k, then-rank-k-via-then-rank-k, then-rank-k-via-else-rank-k+then-rank-l}
@@ -42,7 +31,7 @@ returns-then-rank-k-clause-answer g c = sym (answer-of_none c.args.code.now c.ar
 whole_decodes : (g : Over) (c : In-Some g) → Decodes c.args.code.now c.args.space.now.rows c.in-Some.u
 whole_decodes g c = record {
   message = c.in-Some.ensures.message;
-  near = near_of_part c.args.code.now c.k-k.ensures.code c.args.space.now.rows c.in-Some.u (omega (arith, c.rank-rank.ensures.dimension, c.if-rank-k.false, c.k-k.ensures.symbols)) c.in-Some.ensures.rows;
+  within = within_of_part c.args.code.now c.k-k.ensures.code c.args.space.now.rows c.in-Some.u (omega (arith, c.rank-rank.ensures.dimension, c.if-rank-k.false, c.k-k.ensures.symbols)) c.in-Some.ensures.rows;
 }
 
 pub returns-in-Some-clause-some : goal.returns-in-Some-clause-some

@@ -12,13 +12,11 @@ use Rattle.kk_code.specs.Decoding.{Decodes}
 use Rattle.kk_code.proofs.Enumeration.{answer-of_message, answer-of_none}
 use Rattle.kk_decode.specs.Solving.{point_of}
 use Rattle.kk_decode.proofs.Messages.{some_is, none_is_no_some}
-use Rattle.kk_decode.proofs.Members.{near_of_part}
-use Rattle.kk_decode.proofs.Reach.{rank_in_reach}
 use Rattle.kk_decode.proofs.Rows.{count_rows, points_of_all}
-use Rattle.kk_decode.proofs.Costs.{Sizes, points_cost, division_cost, values_cost, map_fits, all_fits}
+use Rattle.kk_decode.proofs.Costs.{Sizes, points_cost, division_cost, values_cost}
 use Rattle.kk_decode.proofs.decoder.interpolated.Given.{Over}
 use Rattle.kk_decode.proofs.decoder.interpolated.Goals as goal
-use Rattle.kk_decode.proofs.decoder.interpolated.Goals.{After-k-k, After-rows, After-give, After-direct, After-give-2, After-candidate, After-from_residual, Else-is_near}
+use Rattle.kk_decode.proofs.decoder.interpolated.Goals.{After-k-k, After-rows, After-give, After-decode_uninjected, After-give-2, After-candidate, After-from_residual, Else-is_within_radius}
 
 -- ---- the rows as points
 
@@ -125,28 +123,28 @@ returns-in_err-u-clause-answer g c =
     c.from_residual.ensures
     ∙ sym (answer-of_none c.args.code.now c.args.space.now.rows (no_candidate g c (all_points g (goal.at.returns-in_err-u-clause-answer g c).After-give-2) (independent g (goal.at.returns-in_err-u-clause-answer g c).After-give-2)))
 
-pub returns-then-is_near-clause-answer : goal.returns-then-is_near-clause-answer
-returns-then-is_near-clause-answer g c =
+pub returns-then-is_within_radius-clause-answer : goal.returns-then-is_within_radius-clause-answer
+returns-then-is_within_radius-clause-answer g c =
     let p = c.args.code.now in
     let rows = c.args.space.now.rows in
-    sym (answer-of_message p c.k-k.ensures.code rows c.in_ok-u.u (record { message = c.in_ok-u.ensures.message; near = c.is_near.ensures.near.0 c.if-is_near.true }))
+    sym (answer-of_message p c.k-k.ensures.code rows c.in_ok-u.u (record { message = c.in_ok-u.ensures.message; within = c.is_within_radius.ensures.within.0 c.if-is_within_radius.true }))
 
 -- where the only message is too far, none decodes
-far : (g : Over) (c : Else-is_near g) → c.give-2.new.interp.points ≡ map (point_of c.args.code.now.field) c.args.space.now.rows
+far : (g : Over) (c : Else-is_within_radius g) → c.give-2.new.interp.points ≡ map (point_of c.args.code.now.field) c.args.space.now.rows
     → length c.args.space.now.rows ≤ dimension c.args.space.now.rows → (u : List ℕ) → Decodes c.args.code.now c.args.space.now.rows u → ⊥
 far g c points independent u d =
     let p = c.args.code.now in
     let rows = c.args.space.now.rows in
     let same : c.in_ok-u.u ≡ u = some_is c.in_ok-u.u u (c.in_ok-u.ensures.only rows u points independent d) in
-    let near = subst (λ v. distance (codeword p v) rows ≤ p.l - p.k) (sym same) d.near in
-    both_ways _ c.if-is_near.false (c.is_near.ensures.near.1 near)
+    let within = subst (λ v. distance (codeword p v) rows ≤ p.l - p.k) (sym same) d.within in
+    both_ways _ c.if-is_within_radius.false (c.is_within_radius.ensures.within.1 within)
 
-pub returns-else-is_near-clause-none : goal.returns-else-is_near-clause-none
-returns-else-is_near-clause-none g c = far g c (all_points g (goal.at.returns-else-is_near-clause-none g c).After-give-2) (independent g (goal.at.returns-else-is_near-clause-none g c).After-give-2)
+pub returns-else-is_within_radius-clause-none : goal.returns-else-is_within_radius-clause-none
+returns-else-is_within_radius-clause-none g c = far g c (all_points g (goal.at.returns-else-is_within_radius-clause-none g c).After-give-2) (independent g (goal.at.returns-else-is_within_radius-clause-none g c).After-give-2)
 
-pub returns-else-is_near-clause-answer : goal.returns-else-is_near-clause-answer
-returns-else-is_near-clause-answer g c =
-    sym (answer-of_none c.args.code.now c.args.space.now.rows (far g c (all_points g (goal.at.returns-else-is_near-clause-answer g c).After-give-2) (independent g (goal.at.returns-else-is_near-clause-answer g c).After-give-2)))
+pub returns-else-is_within_radius-clause-answer : goal.returns-else-is_within_radius-clause-answer
+returns-else-is_within_radius-clause-answer g c =
+    sym (answer-of_none c.args.code.now c.args.space.now.rows (far g c (all_points g (goal.at.returns-else-is_within_radius-clause-answer g c).After-give-2) (independent g (goal.at.returns-else-is_within_radius-clause-answer g c).After-give-2)))
 
 -- ---- the steps
 
@@ -168,10 +166,10 @@ first_cost g c size =
     let short : all ≤ width c.args.code.now = omega (arith, c.new-interp.ensures.k, ap length c.new-interp.ensures.no_points, c.split_at.ensures.front_len, size.symbols) in
     omega (arith, c.give.ensures.cost, points_cost (width c.args.code.now) front all few short)
 
-direct_cost : (g : Over) (c : After-direct g) → length c.give.new.interp.points ≡ length c.split_at.result.0.now
+uninjected_cost : (g : Over) (c : After-decode_uninjected g) → length c.give.new.interp.points ≡ length c.split_at.result.0.now
     → Sizes (width c.args.code.now) c.k-k.result (dimension c.args.space.now.rows)
-    → c.direct.new.steps ≤ c.give.new.steps + 5 * (width c.args.code.now * width c.args.code.now)
-direct_cost g c points size =
+    → c.decode_uninjected.new.steps ≤ c.give.new.steps + 5 * (width c.args.code.now * width c.args.code.now)
+uninjected_cost g c points size =
     let p = c.args.code.now in
     let n = width p in
     let r = length c.give.new.interp.points in
@@ -181,14 +179,14 @@ direct_cost g c points size =
     let rows : dimension c.args.space.now.rows ≤ n = omega (arith, size.rank) in
     omega (
       arith,
-      c.direct.ensures.cost,
+      c.decode_uninjected.ensures.cost,
       division_cost n p.field.degree p.k r field size.three short few,
       values_cost n (dimension c.args.space.now.rows) p.k rows (omega (arith, c.k-k.ensures.symbols, size.symbols)),
     )
 
 others_cost : (g : Over) (c : After-give-2 g) → length c.give.new.interp.points ≡ length c.split_at.result.0.now → length c.rows.result.now ≡ dimension c.args.space.now.rows
     → Sizes (width c.args.code.now) c.k-k.result (dimension c.args.space.now.rows)
-    → c.give-2.new.steps ≤ c.direct.new.steps + 32 * (width c.args.code.now * width c.args.code.now)
+    → c.give-2.new.steps ≤ c.decode_uninjected.new.steps + 32 * (width c.args.code.now * width c.args.code.now)
 others_cost g c points count size =
     let n = width c.args.code.now in
     let back = length c.split_at.result.1.now in
@@ -216,7 +214,7 @@ returns-in-Some-clause-cost g c =
     omega (
       arith,
       first_cost g at.After-give size,
-      direct_cost g at.After-direct (first_points g at.After-give) size,
+      uninjected_cost g at.After-decode_uninjected (first_points g at.After-give) size,
     )
 
 pub returns-in_err-u-clause-cost : goal.returns-in_err-u-clause-cost
@@ -228,39 +226,39 @@ returns-in_err-u-clause-cost g c =
     omega (
       arith,
       first_cost g at.After-give size,
-      direct_cost g at.After-direct points size,
+      uninjected_cost g at.After-decode_uninjected points size,
       others_cost g at.After-give-2 points (count g at.After-rows) size,
       candidate_cost g at.After-candidate (point_count g at.After-give-2) size,
     )
 
-pub returns-then-is_near-clause-cost : goal.returns-then-is_near-clause-cost
-returns-then-is_near-clause-cost g c =
-    let at = goal.at.returns-then-is_near-clause-cost g c in
+pub returns-then-is_within_radius-clause-cost : goal.returns-then-is_within_radius-clause-cost
+returns-then-is_within_radius-clause-cost g c =
+    let at = goal.at.returns-then-is_within_radius-clause-cost g c in
     let n = width c.args.code.now in
     let size = sizes g at.After-k-k in
     let points = first_points g at.After-give in
     omega (
       arith,
       first_cost g at.After-give size,
-      direct_cost g at.After-direct points size,
+      uninjected_cost g at.After-decode_uninjected points size,
       others_cost g at.After-give-2 points (count g at.After-rows) size,
       candidate_cost g at.After-candidate (point_count g at.After-give-2) size,
-      c.is_near.ensures.cost,
-      values_cost n (dimension c.args.space.now.rows) c.args.code.now.k (omega (arith, size.rank)) (omega (arith, c.k-k.ensures.symbols, size.symbols)),
+      c.is_within_radius.ensures.cost,
+      values_cost n c.args.code.now.l c.args.code.now.k (omega arith) (omega (arith, c.k-k.ensures.symbols, size.symbols)),
     )
 
-pub returns-else-is_near-clause-cost : goal.returns-else-is_near-clause-cost
-returns-else-is_near-clause-cost g c =
-    let at = goal.at.returns-else-is_near-clause-cost g c in
+pub returns-else-is_within_radius-clause-cost : goal.returns-else-is_within_radius-clause-cost
+returns-else-is_within_radius-clause-cost g c =
+    let at = goal.at.returns-else-is_within_radius-clause-cost g c in
     let n = width c.args.code.now in
     let size = sizes g at.After-k-k in
     let points = first_points g at.After-give in
     omega (
       arith,
       first_cost g at.After-give size,
-      direct_cost g at.After-direct points size,
+      uninjected_cost g at.After-decode_uninjected points size,
       others_cost g at.After-give-2 points (count g at.After-rows) size,
       candidate_cost g at.After-candidate (point_count g at.After-give-2) size,
-      c.is_near.ensures.cost,
-      values_cost n (dimension c.args.space.now.rows) c.args.code.now.k (omega (arith, size.rank)) (omega (arith, c.k-k.ensures.symbols, size.symbols)),
+      c.is_within_radius.ensures.cost,
+      values_cost n c.args.code.now.l c.args.code.now.k (omega arith) (omega (arith, c.k-k.ensures.symbols, size.symbols)),
     )

@@ -9,7 +9,7 @@ pub loop-j-init : goal.loop-j-init
 loop-j-init g c =
     let m = c.args.field.now.degree in
     let k = c.args.k in
-    let long : length c.nodes-nodes.result ≡ 65 = omega (arith, c.nodes-nodes.type_inv) in
-    let count : length (take k c.nodes-nodes.result) ≡ k = length-take-le k c.nodes-nodes.result (omega (arith, c.requires, long)) in
-    let cost = subst (λ n. c.vanishing-zeros_at.new.steps ≤ c.nodes-nodes.new.steps + n * (n + 1)) count c.vanishing-zeros_at.ensures.cost in
-    record { over = All-replicate (IsOver m) 64 (replicate 65 0) (IsOver-zeros m 65); counted = omega (arith, c.nodes-nodes.ensures.cost, cost) }
+    let long : length c.powers_of-nodes.result ≡ 64 = omega (arith, c.powers_of-nodes.type_inv) in
+    let count : length (take k c.powers_of-nodes.result) ≡ k = length-take-le k c.powers_of-nodes.result (omega (arith, c.requires, long)) in
+    let cost = subst (λ n. c.vanishing-zeros_at.new.steps ≤ c.powers_of-nodes.new.steps + n * (n + 1)) count c.vanishing-zeros_at.ensures.cost in
+    record { over = All-replicate (IsOver m) 64 (replicate 65 0) (IsOver-zeros m 65); counted = omega (arith, c.powers_of-nodes.ensures.cost, cost) }

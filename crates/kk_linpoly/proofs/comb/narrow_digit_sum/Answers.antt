@@ -1,5 +1,5 @@
 use Rattle.std.proofs.Common.{ℕ, ◌+◌, [], get_or, slice_index, bit_xor, ap, ◌∙◌}
-use Rattle.kk_linpoly.proofs.Combs.{xor_sum-start, xor_sum-more}
+use Rattle.kk_linpoly.proofs.XorSums.{xor_sum-start, xor_sum-more}
 use Rattle.kk_linpoly.proofs.comb.narrow_digit_sum.Goals as goal
 
 pub loop-i-init : goal.loop-i-init

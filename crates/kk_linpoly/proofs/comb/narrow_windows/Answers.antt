@@ -1,11 +1,12 @@
 use Rattle.std.proofs.Common.{◌+◌, arith, refl, ap, ◌∙◌}
 use Rattle.std.proofs.lemmas.List.{length-set}
 use Rattle.kk_field.specs.Polynomial.{product}
-use Rattle.kk_linpoly.proofs.Combs.{slice_index-lt, windows_more}
+use Rattle.kk_linpoly.proofs.Coefficients.{coefficient-lt}
+use Rattle.kk_linpoly.proofs.Combs.{windows_more}
 use Rattle.kk_linpoly.proofs.comb.narrow_windows.Goals as goal
 
 pub narrow_window-requires : goal.narrow_window-requires
-narrow_window-requires c = rw c.entry.ensures (slice_index-lt 32 c.args.vector.now c.requires.small (c.args.first + c.loop-i.i))
+narrow_window-requires c = rw c.entry.ensures (coefficient-lt 32 c.args.vector.now c.requires.small (c.args.first + c.loop-i.i))
 
 pub loop-i-init : goal.loop-i-init
 loop-i-init c = record { long = refl; made = λ j k less few. absurd (omega (arith, less)) }

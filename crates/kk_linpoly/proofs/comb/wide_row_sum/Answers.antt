@@ -2,13 +2,14 @@ use Rattle.std.proofs.Common.{◌≡◌, ℕ, ◌+◌, ◌-◌, ◌*◌, ◌^◌
 use Rattle.std.proofs.Math.Nat.{mod-eq_of_lt}
 use Rattle.kk_linpoly.specs.LinPoly.{xor_sum}
 use Rattle.kk_linpoly.specs.declared.comb.TheConstants.{BLOCK}
-use Rattle.kk_linpoly.proofs.Combs.{slice_index-lt, digits_of-lt, from_place, at_place, place_next, from_none, from_all, from_lt, at_place-windows}
+use Rattle.kk_linpoly.proofs.Coefficients.{coefficient-lt}
+use Rattle.kk_linpoly.proofs.Combs.{digits_of-lt, from_place, at_place, place_next, from_none, from_all, from_lt, at_place-windows}
 use Rattle.kk_linpoly.proofs.comb.wide_row_sum.Goals as goal
 
 pub loop-d-init : goal.loop-d-init
 loop-d-init c vector made over =
     from_none (λ i. slice_index vector (c.args.first + i)) (λ i. slice_index c.args.row.now (c.args.first + i)) BLOCK 64
-    (λ i. slice_index-lt 64 c.args.row.now c.requires.small (c.args.first + i))
+    (λ i. coefficient-lt 64 c.args.row.now c.requires.small (c.args.first + i))
 
 pub wide_digit_sum-requires-clause-digits : goal.wide_digit_sum-requires-clause-digits
 wide_digit_sum-requires-clause-digits c =
@@ -27,7 +28,7 @@ loop-d-preserved c vector made over =
     let then : s ≡ 64 - 4 * (c.loop-d.d + 1) = omega (arith, c.loop-d-test.true) in
     let sum : c.loop-d.sum ≡ from_place v e BLOCK (s + 4) = c.loop-d.invariant vector made over ∙ ap (from_place v e BLOCK) now in
     let bound : c.loop-d.sum < 2 ^ 123 =
-    rw sum (from_lt v e BLOCK 64 (s + 4) (omega arith) (λ i. slice_index-lt 64 vector over (first + i)) (λ i. slice_index-lt 64 row c.requires.small (first + i)) (omega arith)) in
+    rw sum (from_lt v e BLOCK 64 (s + 4) (omega arith) (λ i. coefficient-lt 64 vector over (first + i)) (λ i. coefficient-lt 64 row c.requires.small (first + i)) (omega arith)) in
     let fits : c.loop-d.sum * 16 < 340282366920938463463374607431768211456 = omega (arith, bound) in
     let low : c.wide_digit_sum.result ≡ at_place v e BLOCK s =
     c.wide_digit_sum.ensures

@@ -11,5 +11,5 @@ transform-requires-clause-matrix_of_field c =
     let first : IsOver 3 (1 ∷ 2 ∷ []) = search rules in
     let second : IsOver 3 (4 ∷ 7 ∷ []) = search rules in
     rw degree
-    (All-cons (IsOver 3) c.of.result (c.of-2.result ∷ []) (IsOver-row 3 (1 ∷ 2 ∷ []) c.of.result 30 c.of.ensures.value first)
-    (All-cons (IsOver 3) c.of-2.result [] (IsOver-row 3 (4 ∷ 7 ∷ []) c.of-2.result 30 c.of-2.ensures.value second) (All-nil (IsOver 3))))
+    (All-cons (IsOver 3) c.of.result (c.of-2.result ∷ []) (IsOver-row 3 (1 ∷ 2 ∷ []) c.of.result 62 c.of.ensures.value first)
+    (All-cons (IsOver 3) c.of-2.result [] (IsOver-row 3 (4 ∷ 7 ∷ []) c.of-2.result 62 c.of-2.ensures.value second) (All-nil (IsOver 3))))

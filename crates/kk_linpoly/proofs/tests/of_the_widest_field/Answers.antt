@@ -11,5 +11,5 @@ transform-requires-clause-matrix_of_field c =
     let first : IsOver 64 (9223372036854775808 ∷ 3 ∷ []) = search rules in
     let second : IsOver 64 (18446744073709551615 ∷ []) = search rules in
     rw degree
-    (All-cons (IsOver 64) c.of.result (c.of-2.result ∷ []) (IsOver-row 64 (9223372036854775808 ∷ 3 ∷ []) c.of.result 30 c.of.ensures.value first)
-    (All-cons (IsOver 64) c.of-2.result [] (IsOver-row 64 (18446744073709551615 ∷ []) c.of-2.result 31 c.of-2.ensures.value second) (All-nil (IsOver 64))))
+    (All-cons (IsOver 64) c.of.result (c.of-2.result ∷ []) (IsOver-row 64 (9223372036854775808 ∷ 3 ∷ []) c.of.result 62 c.of.ensures.value first)
+    (All-cons (IsOver 64) c.of-2.result [] (IsOver-row 64 (18446744073709551615 ∷ []) c.of-2.result 63 c.of-2.ensures.value second) (All-nil (IsOver 64))))

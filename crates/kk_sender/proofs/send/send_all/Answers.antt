@@ -1,10 +1,9 @@
 use Rattle.std.proofs.Common.{◌≡◌, ◌+◌, ◌-◌, length, take, Err, ap, sym, subst, ◌∙◌, arith}
 use Rattle.std.proofs.lemmas.Result.{err_from_is_err_and}
 use Rattle.kk_outside.specs.Change.{change}
-use Rattle.kk_outside.specs.Outlet.{append_datagrams}
+use Rattle.kk_outside.specs.Outlet.{IsCutShort, append_datagrams}
 use Rattle.kk_outside.specs.Generator.{word_at}
 use Rattle.kk_sender.specs.SentFrames.{sent_datagrams}
-use Rattle.kk_sender.specs.Sending.{SentPrefix}
 use Rattle.kk_sender.proofs.Lengths.{the_file, wrong_sent}
 use Rattle.kk_sender.proofs.Generations.{length-sent_frames, length-sent_datagrams}
 use Rattle.kk_sender.proofs.send.send_all.Goals as goal
@@ -41,5 +40,5 @@ returns-clause-prefix g c = λ _.
     let word = word_at (g.R.Rng.stream c.args.rng.now) in
     let len : length c.deref_mut.result.now - 1 ≡ t.length = omega (arith, c.deref_mut.ensures.len, c.in-Ok.ensures) in
     let file = the_file t.length c.in-Ok.room.len c.read_file.new.room c.in-Ok.room.items c.deref.result.now _ c.deref.ensures.value c.in-Ok.ensures (omega (arith, c.read_file.auto.room, c.deref_mut.ensures.len, c.in-Ok.ensures)) (rw len at c.in_ok-read_file.ensures.file) in
-    subst (λ f. SentPrefix (change (told c.args.outlet.now) (told c.send_file-sent.new.outlet)) (sent_datagrams t f c.args.extra c.args.pack word))
+    subst (λ f. IsCutShort (change (told c.args.outlet.now) (told c.send_file-sent.new.outlet)) (sent_datagrams t f c.args.extra c.args.pack word))
     (ap (λ n. take n c.deref.result.now) c.length.ensures.length ∙ file) c.in-Err.ensures.prefix

@@ -80,8 +80,8 @@ returns-clause-sent g c =
     let rows = rows_out t c.args.file.now c.args.extra c.args.pack loop.datagram.pack word loop.generation (change (told c.args.outlet.now) (told c.finish.new.outlet)) loop.invariant.pack
     (omega (arith, c.loop-generation-test.false, loop.auto.generation-end, c.generations-generation-end.ensures.count))
     (c.in_ok-finish.ensures.all (told c.args.outlet.now) _ t loop.invariant.pending) in
-    OnOk-then _ _ c.send_end.result c.send_end.ensures.sent (λ went.
-    all_out t c.args.file.now c.args.extra c.args.pack word (told c.args.outlet.now) (told c.finish.new.outlet) (told c.send_end.new.outlet) rows went)
+    OnOk-then _ _ c.send_frame.result c.send_frame.ensures.sends.sent (λ went.
+    all_out t c.args.file.now c.args.extra c.args.pack word (told c.args.outlet.now) (told c.finish.new.outlet) (told c.send_frame.new.outlet) rows went)
 
 pub returns-clause-prefix : goal.returns-clause-prefix
 returns-clause-prefix g c =
@@ -92,5 +92,5 @@ returns-clause-prefix g c =
     let rows = rows_out t c.args.file.now c.args.extra c.args.pack loop.datagram.pack word loop.generation (change (told c.args.outlet.now) (told c.finish.new.outlet)) loop.invariant.pack
     (omega (arith, c.loop-generation-test.false, loop.auto.generation-end, c.generations-generation-end.ensures.count))
     (c.in_ok-finish.ensures.all (told c.args.outlet.now) _ t loop.invariant.pending) in
-    OnErr-then _ _ c.send_end.result c.send_end.ensures.failed (λ failed.
-    end_unsent t c.args.file.now c.args.extra c.args.pack word (told c.args.outlet.now) (told c.finish.new.outlet) (told c.send_end.new.outlet) rows failed)
+    OnErr-then _ _ c.send_frame.result c.send_frame.ensures.sends.failed (λ failed.
+    end_unsent t c.args.file.now c.args.extra c.args.pack word (told c.args.outlet.now) (told c.finish.new.outlet) (told c.send_frame.new.outlet) rows failed)

@@ -4,12 +4,12 @@ use Rattle.kk_code.specs.Ticket.{TicketFields}
 use Rattle.kk_words.specs.declared.command.Command.{Command}
 use Rattle.kk_words.specs.declared.command.Command.TheVariants.{Plan, Pack, Unpack, Recv}
 use Rattle.kk_words.specs.Request.{Request}
-use Rattle.kk_top.specs.Words.{IsRequestFor, AsksNothingOf, named_in}
-use Rattle.kk_top.specs.commands.Plan.{NamesCode}
-use Rattle.kk_top.proofs.Asking.{named_of}
+use Rattle.kk_order.specs.Words.{IsRequestFor, AreNotOfForm, named_in}
+use Rattle.kk_run_plan.specs.Plan.{NamesCode}
+use Rattle.kk_order.proofs.Requests.{named_of}
 use Rattle.kk_top.proofs.program.run.Goals as goal
 
-names_none : (words : List (List ℕ)) → AsksNothingOf words Plan → (t : TicketFields) → NamesCode words t → ⊥
+names_none : (words : List (List ℕ)) → AreNotOfForm words Plan → (t : TicketFields) → NamesCode words t → ⊥
 names_none words none t named = none named.request named.asked
 
 -- words that ask something of a command name that one

@@ -22,6 +22,6 @@ deal-requires-clause-frames g c =
     let word = word_at start in
     let words = c.in_ok-file.ensures.words ∙ ap (λ (n : ℕ). after_words (file_words n) start) c.length.ensures.length in
     let file = c.deref.ensures.value ∙ c.in_ok-file.ensures.file ∙ ap (λ (n : ℕ). made_file n word) c.length.ensures.length in
-    let possible : IsPossible t c.args.loss = record { erase = c.requires.erase; inject = c.requires.inject } in
-    let are = trial_frames_are_frames t c.args.loss word c.length.ensures.ticket possible in
+    let possible : IsPossible t c.args.channel = record { erase = c.requires.erase; inject = c.requires.inject } in
+    let are = trial_frames_are_frames t c.args.channel word c.length.ensures.ticket possible in
     subst (All (λ f. IsFrame t (Vector f.0 f.1))) (sym (ap pairs c.deref-2.ensures.value ∙ c.in_ok-frames.ensures.frames start words file)) are.in_range

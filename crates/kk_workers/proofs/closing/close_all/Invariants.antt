@@ -1,4 +1,4 @@
-use Rattle.kk_workers.specs.Works.{SamePass}
+use Rattle.kk_workers.specs.WorkerCalls.{SamePass}
 use Rattle.kk_workers.specs.Runs.{lists_in, Closes}
 use Rattle.kk_workers.proofs.closing.close_all.Given as goal
 

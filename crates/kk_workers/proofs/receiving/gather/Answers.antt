@@ -1,7 +1,9 @@
 use Rattle.std.proofs.Common.{◌≡◌, ◌<◌, ◌+◌, ◌++◌, ◌∷◌, [], ℕ, List, length, map, refl, sym, ap, ◌∙◌, subst, arith, length-append}
 use Rattle.std.specs.List.{range_with_len}
 use Rattle.std.proofs.lemmas.List.{length-map}
+use Rattle.std.proofs.lemmas.List.FromFn.{length-map-range_with_len}
 use Rattle.kk_table.specs.declared.view.Known.{Known}
+use Rattle.kk_table.specs.declared.view.Shape.{Shape}
 use Rattle.kk_table.specs.Founder.{FounderView}
 use Rattle.kk_table.specs.Rule.{numbers_of}
 use Rattle.kk_workers.specs.Worker.{WorkerView}
@@ -69,6 +71,11 @@ unreachable-requires-in_default-finish g c =
       c.run_all.ensures.len,
       long,
     )
+
+pub invariant_of-result : goal.invariant_of-result
+invariant_of-result g c =
+    ap length c.decode_all.ensures ∙ length-map-range_with_len _ 0 c.generations-generations.result ∙ c.generations-generations.ensures.count
+    ∙ sym (ap (λ (s : Shape). s.generations) (c.in-Ok-finish.ensures.logs.0 ∙ c.in_ok-table.ensures.shape))
 
 pub returns-clause-received : goal.returns-clause-received
 returns-clause-received g c =

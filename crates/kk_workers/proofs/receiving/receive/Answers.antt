@@ -1,12 +1,12 @@
 use Rattle.std.proofs.Common.{subst}
 use Rattle.kk_table.specs.Logs.{IsLogs}
-use Rattle.kk_workers.specs.Headline.{ReceivedView}
-use Rattle.kk_workers.proofs.Headlines.{headline, add_up, one_count_each, one_answer_each}
+use Rattle.kk_workers.specs.Received.{ReceivedView}
+use Rattle.kk_workers.proofs.OneHistory.{one_history, add_up, one_count_each, one_answer_each}
 use Rattle.kk_workers.proofs.receiving.receive.Goals as goal
 
-pub returns-clause-headline : goal.returns-clause-headline
-returns-clause-headline g c =
-    headline g.G.Gate.told c.args.ticket.now c.args.plan.now c.args.gates.now.items c.gather.new.gates.items c.in_ok-received.received c.in_ok-received.ensures.received
+pub returns-clause-one_history : goal.returns-clause-one_history
+returns-clause-one_history g c =
+    one_history g.G.Gate.told c.args.ticket.now c.args.plan.now c.args.gates.now.items c.gather.new.gates.items c.in_ok-received.received c.in_ok-received.ensures.received
     (subst (λ (r : ReceivedView). IsLogs r.logs.shape r.logs.records r.logs.logs) c.received.view_is c.history.ensures)
 
 pub returns-clause-add_up : goal.returns-clause-add_up

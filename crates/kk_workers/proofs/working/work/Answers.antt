@@ -1,12 +1,12 @@
 use Rattle.std.proofs.Common.{◌≡◌, ◌∙◌, [], true, ap, sym, refl, subst, rules}
 use Rattle.kk_outside.specs.Change.{change}
 use Rattle.kk_outside.specs.Gate.{GateTold}
-use Rattle.kk_frame.specs.Intake.{is_running}
+use Rattle.kk_frame.specs.Asking.{FaultCause, frames_of}
 use Rattle.kk_workers.specs.Worker.{WorkerView}
-use Rattle.kk_workers.specs.Works.{SamePass, Worked, FaultCause}
-use Rattle.kk_workers.specs.Working.{Working}
+use Rattle.kk_workers.specs.WorkerCalls.{SamePass, WasWorkedOff}
+use Rattle.kk_workers.specs.WorkerLoop.{IsUnderWay}
 use Rattle.kk_workers.proofs.Kept.{IsInserter-start}
-use Rattle.kk_workers.proofs.Works.{Working-start, Working-more, Worked-end, FaultCause-start, FaultCause-more, few_inserts}
+use Rattle.kk_workers.proofs.WorkerLoop.{IsUnderWay-start, IsUnderWay-more, WasWorkedOff-end, few_inserts}
 use Rattle.kk_workers.proofs.working.work.Goals as goal
 
 pub loop-buf-init : goal.loop-buf-init
@@ -19,17 +19,16 @@ loop-buf-init g c =
     let none : inside.inserter.pass.known.calls ≡ [] = ap (λ (w : W). w.pass.known.calls) is ∙ c.requires.no_calls in
     record {
       same = subst (λ (w : W). SamePass w.pass inside.inserter.pass) is (record { table = refl; number = refl; note = refl });
-      working = subst (λ (w : W). Working t c.args.plan.now (change (told w.gate) (told inside.gate)) c.new-intake.result inside.inserter.pass.known.calls) is
-          (Working-start t c.args.plan.now (told inside.gate) c.new-intake.result inside.inserter.pass.known.calls (c.new-intake.ensures.after t) c.new-intake.ensures.limits c.new-intake.ensures.calls none);
+      working = subst (λ (w : W). IsUnderWay t c.args.plan.now (change (told w.gate) (told inside.gate)) c.new-intake.result inside.inserter.pass.known.calls) is
+          (IsUnderWay-start t c.args.plan.now (told inside.gate) c.new-intake.result inside.inserter.pass.known.calls c.new-intake.ensures.after c.new-intake.ensures.running c.new-intake.ensures.limits c.new-intake.ensures.calls none);
       inserter = IsInserter-start t inside.inserter (ap (λ (w : W). w.totals) is ∙ c.requires.no_inserts) none (ap (λ (w : W). w.answers) is ∙ c.requires.no_answers);
-      cause = subst (λ (w : W). FaultCause (change (told w.gate) (told inside.gate)) c.new-intake.result.counts) is (FaultCause-start (told inside.gate) c.new-intake.result c.new-intake.ensures.running);
     }
 
-pub ask-requires-clause-table : goal.ask-requires-clause-table
-ask-requires-clause-table g c = c.loop-buf.invariant.same.table ∙ c.requires.table
+pub insert_frames-requires-clause-table : goal.insert_frames-requires-clause-table
+insert_frames-requires-clause-table g c = c.loop-buf.invariant.same.table ∙ c.requires.table
 
-pub ask-requires-clause-few : goal.ask-requires-clause-few
-ask-requires-clause-few g c =
+pub insert_frames-requires-clause-few : goal.insert_frames-requires-clause-few
+insert_frames-requires-clause-few g c =
     few_inserts c.args.ticket.now c.args.plan.now (change (g.G.Gate.told c.args.worker.now.gate) (g.G.Gate.told c.loop-buf.worker-inside.gate)) c.loop-buf.intake c.loop-buf.worker-inside.inserter.pass.known.calls c.loop-buf.worker-inside.inserter.totals
     (search rules) c.runs.ensures.intake c.loop-buf.invariant.working c.loop-buf.invariant.inserter.totals
 
@@ -38,16 +37,17 @@ loop-buf-preserved g c =
     let told : g.row.G.Denot → GateTold = g.G.Gate.told in
     let inv = c.loop-buf.invariant in
     let inside = c.loop-buf.worker-inside in
-    let on : is_running c.loop-buf.intake ≡ true = sym c.runs.ensures.running ∙ c.loop-buf-test.true in
+    let start = told c.args.worker.now.gate in
     record {
       same = record {
-        table = c.ask.ensures.pass.table ∙ inv.same.table;
-        number = c.ask.ensures.pass.number ∙ inv.same.number;
-        note = c.ask.ensures.pass.note ∙ inv.same.note;
+        table = c.insert_frames.ensures.pass.table ∙ inv.same.table;
+        number = c.insert_frames.ensures.pass.number ∙ inv.same.number;
+        note = c.insert_frames.ensures.pass.note ∙ inv.same.note;
       };
-      working = Working-more c.args.ticket.now c.args.plan.now (told c.args.worker.now.gate) (told inside.gate) (told c.ask.new.gate) c.loop-buf.intake c.ask.new.intake inside.inserter.pass.known.calls c.ask.new.inserter.pass.known.calls on inv.working c.ask.ensures.asked;
-      inserter = c.ask.ensures.inserter;
-      cause = FaultCause-more (told c.args.worker.now.gate) (told inside.gate) (told c.ask.new.gate) c.loop-buf.intake c.ask.new.intake on inv.cause c.ask.ensures.cause;
+      working = IsUnderWay-more c.args.ticket.now c.args.plan.now start (told inside.gate) (told c.ask-frames.new.gate) c.loop-buf.intake c.ask-frames.new.self inside.inserter.pass.known.calls c.insert_frames.new.self.pass.known.calls
+          (frames_of c.ask-frames.result) inv.working (c.ask-frames.ensures.asked start inv.working.events inv.working.frames inv.working.asked)
+          c.ask-frames.ensures.one c.ask-frames.ensures.limits c.ask-frames.ensures.sooner c.insert_frames.ensures.brings;
+      inserter = c.insert_frames.ensures.inserter;
     }
 
 pub returns-clause-pass : goal.returns-clause-pass
@@ -57,8 +57,8 @@ pub returns-clause-worked : goal.returns-clause-worked
 returns-clause-worked g c =
     let gate = change (g.G.Gate.told c.args.worker.now.gate) (g.G.Gate.told c.loop-buf.worker-inside.gate) in
     let calls = c.loop-buf.worker-inside.inserter.pass.known.calls in
-    subst (λ x. Worked c.args.ticket.now c.args.plan.now gate x calls) (sym c.counts-worker-inside.ensures.counts)
-    (Worked-end c.args.ticket.now c.args.plan.now gate c.loop-buf.intake calls (sym c.runs.ensures.running ∙ c.loop-buf-test.false) c.loop-buf.invariant.working)
+    subst (λ x. WasWorkedOff c.args.ticket.now c.args.plan.now gate x calls) (sym c.counts-worker-inside.ensures.counts)
+    (WasWorkedOff-end c.args.ticket.now c.args.plan.now gate c.loop-buf.intake calls (sym c.runs.ensures.running ∙ c.loop-buf-test.false) c.loop-buf.invariant.working)
 
 pub returns-clause-few : goal.returns-clause-few
 returns-clause-few g c =
@@ -73,3 +73,8 @@ returns-clause-answers g c = c.loop-buf.invariant.inserter.answers
 
 pub returns-clause-all_answers : goal.returns-clause-all_answers
 returns-clause-all_answers g c = c.loop-buf.invariant.inserter.all
+
+pub returns-clause-cause : goal.returns-clause-cause
+returns-clause-cause g c =
+    let gate = change (g.G.Gate.told c.args.worker.now.gate) (g.G.Gate.told c.loop-buf.worker-inside.gate) in
+    subst (FaultCause gate) (sym c.counts-worker-inside.ensures.counts) c.loop-buf.invariant.working.asked.cause

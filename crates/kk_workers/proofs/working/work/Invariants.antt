@@ -1,15 +1,14 @@
 use Rattle.kk_outside.specs.Change.{change}
 use Rattle.kk_frame.specs.Intake.{calls_left}
-use Rattle.kk_workers.specs.Works.{SamePass, FaultCause}
-use Rattle.kk_workers.specs.Working.{IsInserter, Working}
+use Rattle.kk_workers.specs.WorkerCalls.{SamePass}
+use Rattle.kk_workers.specs.WorkerLoop.{IsInserter, IsUnderWay}
 use Rattle.kk_workers.proofs.working.work.Given as goal
 
 abbrev pub invariant-loop-buf : goal.invariant-loop-buf
 invariant-loop-buf g l = record {
   same : SamePass l.fn.worker.pass l.worker-inside.inserter.pass;
-  working : Working l.ticket l.plan (change (g.G.Gate.told l.fn.worker.gate) (g.G.Gate.told l.worker-inside.gate)) l.intake l.worker-inside.inserter.pass.known.calls;
+  working : IsUnderWay l.ticket l.plan (change (g.G.Gate.told l.fn.worker.gate) (g.G.Gate.told l.worker-inside.gate)) l.intake l.worker-inside.inserter.pass.known.calls;
   inserter : IsInserter l.ticket l.worker-inside.inserter;
-  cause : FaultCause (change (g.G.Gate.told l.fn.worker.gate) (g.G.Gate.told l.worker-inside.gate)) l.intake.counts;
 }
 
 abbrev pub decreases-loop-buf : goal.decreases-loop-buf

@@ -1,5 +1,5 @@
 use Rattle.std.proofs.Math.Pow.{pow_mono}
-use Rattle.std.proofs.Common.{◌/◌, ◌<◌, ◌≤◌, ◌-◌, ◌%◌, ◌^◌, bit_and, ap, ◌∙◌, arith}
+use Rattle.std.proofs.Common.{◌/◌, ◌<◌, ◌≤◌, ◌%◌, ◌^◌, bit_and, ap, ◌∙◌, arith}
 use Rattle.std.proofs.lemmas.Nat.{and_mask}
 use Rattle.kk_code.proofs.Values.{x_part_below}
 use Rattle.kk_code.proofs.code.Code.parts.Goals as goal

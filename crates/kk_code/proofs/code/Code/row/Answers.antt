@@ -1,4 +1,4 @@
-use Rattle.std.proofs.Common.{◌≡◌, ◌+◌, ◌*◌, ◌%◌, ◌^◌, ap, ap₂, ◌∙◌, arith}
+use Rattle.std.proofs.Common.{◌+◌, ◌*◌, ◌%◌, ◌^◌, ap, ap₂, ◌∙◌}
 use Rattle.kk_code.proofs.Values.{row_joined}
 use Rattle.kk_code.proofs.code.Code.row.Goals as goal
 

@@ -10,7 +10,8 @@ use Rattle.kk_linpoly.proofs.XorSums.{xor_sum-none}
 use Rattle.kk_code.specs.Codeword.{IsInRange}
 use Rattle.kk_code.specs.Encoder.{IsEncoder, base, per_word, multiples, next_term}
 use Rattle.kk_code.proofs.PackedMultiples.{IsAdditive-multiples, top-multiples}
-use Rattle.kk_code.proofs.TermSums.{xor_sum-next, some_per_word}
+use Rattle.kk_linpoly.proofs.XorSums.{xor_sum-more}
+use Rattle.kk_code.proofs.TermSums.{some_per_word}
 use Rattle.kk_code.proofs.encoder.Encoder.advance_by.Goals as goal
 
 pub loop-j-init : goal.loop-j-init
@@ -62,7 +63,7 @@ loop-j-preserved c =
     let room : j < length terms = omega (arith, inv.long, within, range.k_high, range.l_high, range.m_high) in
     record {
       long = length-set terms j y ∙ inv.long;
-      word_is = ap₂ bit_xor inv.word_is products_are ∙ sym (xor_sum-next _ j);
+      word_is = ap₂ bit_xor inv.word_is products_are ∙ xor_sum-more _ j;
       done = λ k less. elim (cases_lt k j) [
         | inl before ↦ get_or-set_other terms j k y 0 (λ e. omega (arith, e, before)) ∙ inv.done k before
         | inr here ↦ let e : k ≡ j = omega (arith, less, here) in rw e (get_or-set_same terms j y 0 room ∙ y_is)

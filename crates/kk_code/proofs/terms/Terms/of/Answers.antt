@@ -6,7 +6,8 @@ use Rattle.kk_linpoly.specs.LinPoly.{xor_sum}
 use Rattle.kk_linpoly.proofs.XorSums.{xor_sum-none}
 use Rattle.kk_code.specs.Encoder.{value_at}
 use Rattle.kk_code.proofs.PackedMultiples.{part}
-use Rattle.kk_code.proofs.TermSums.{xor_sum-next, term_first, symbol_below, value_first, value_at-lt, part_first}
+use Rattle.kk_linpoly.proofs.XorSums.{xor_sum-more}
+use Rattle.kk_code.proofs.TermSums.{term_first, symbol_below, value_first, value_at-lt, part_first}
 use Rattle.kk_code.proofs.terms.Terms.of.Goals as goal
 
 pub loop-j-init : goal.loop-j-init
@@ -32,7 +33,7 @@ loop-j-preserved c =
         | inl before ↦ get_or-set_other c.loop-j.at_last j i s 0 (λ e. omega (arith, e, before)) ∙ inv.copied i before
         | inr here ↦ let e : i ≡ j = omega (arith, less, here) in rw e (get_or-set_same c.loop-j.at_last j s 0 room ∙ symbol)
       ];
-      word_is = ap₂ bit_xor inv.word_is symbol ∙ sym (xor_sum-next (slice_index u) j);
+      word_is = ap₂ bit_xor inv.word_is symbol ∙ xor_sum-more (slice_index u) j;
     }
 
 pub returns : goal.returns

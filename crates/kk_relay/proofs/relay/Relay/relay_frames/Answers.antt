@@ -5,7 +5,8 @@ use Rattle.kk_rows.specs.declared.rows.Row.{Row}
 use Rattle.kk_outside.specs.Change.{change}
 use Rattle.kk_frame.specs.FrameView.{pairs}
 use Rattle.kk_frame.proofs.Batches.{in_batch, batch_more}
-use Rattle.kk_relay.specs.Progress.{HasRelayed, frames_of}
+use Rattle.kk_frame.specs.Asking.{frames_of}
+use Rattle.kk_relay.specs.Progress.{HasRelayed}
 use Rattle.kk_relay.specs.Relaying.{relayed}
 use Rattle.kk_outside.specs.Generator.{word_at}
 use Rattle.kk_relay.proofs.Steps.{batch_step, BreaksOff-batch, few_more}

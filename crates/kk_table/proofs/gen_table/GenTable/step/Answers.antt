@@ -12,7 +12,7 @@ pub invariant_of-pass : goal.invariant_of-pass
 invariant_of-pass c =
     let shape : c.pass.inside.shape ≡ c.args.self.now.shape = ap (λ (p : PassView). p.table.shape) c.pass.view_is ∙ ap (λ (t : TableView). t.shape) c.requires.table in
     let own : c.pass.inside.shape ≡ c.self.inside.shape = shape ∙ sym (ap (λ (t : TableView). t.shape) c.self.view_is) in
-    let near = subst (λ (s : Shape). c.generation-generation.result < s.generations) (sym shape) (subst (λ (g : ℕ). g < c.args.self.now.shape.generations) (sym c.generation-generation.ensures) c.requires.near) in
+    let near = subst (λ (s : Shape). c.generation-generation.result < s.generations) (sym shape) (subst (λ (g : ℕ). g < c.args.self.now.shape.generations) (sym c.generation-generation.ensures) c.requires.in_range) in
     let tried = subst (λ (s : Shape). Tried s.width c.changes-changing.result c.args.call c.pass.inside.seat.me.0 c.probe-found.result c.probe-found.new.seat.me.0) (sym own) c.probe-found.ensures.tried in
     passes_on c.pass.inside.shape _ _ _ _ _ _ _ c.changes-changing.result c.args.call c.probe-found.result _ c.pass.invariant c.generation-generation.ensures near tried
     c.probe-found.ensures.table.1 c.index_mut-sight.ensures.value c.leaves.ensures c.tell.ensures
@@ -22,7 +22,7 @@ done : (c : goal.After-pass-1) → Stepped c.args.call c.args.pass.now.known (kn
 done c =
     let shape : c.pass.inside.shape ≡ c.args.self.now.shape = ap (λ (p : PassView). p.table.shape) c.pass.view_is ∙ ap (λ (t : TableView). t.shape) c.requires.table in
     let own : c.pass.inside.shape ≡ c.self.inside.shape = shape ∙ sym (ap (λ (t : TableView). t.shape) c.self.view_is) in
-    let near = subst (λ (s : Shape). c.generation-generation.result < s.generations) (sym shape) (subst (λ (g : ℕ). g < c.args.self.now.shape.generations) (sym c.generation-generation.ensures) c.requires.near) in
+    let near = subst (λ (s : Shape). c.generation-generation.result < s.generations) (sym shape) (subst (λ (g : ℕ). g < c.args.self.now.shape.generations) (sym c.generation-generation.ensures) c.requires.in_range) in
     let tried = subst (λ (s : Shape). Tried s.width c.changes-changing.result c.args.call c.pass.inside.seat.me.0 c.probe-found.result c.probe-found.new.seat.me.0) (sym own) c.probe-found.ensures.tried in
     let fits : c.pass.inside.shape.width ≤ 63 = subst (λ (s : Shape). s.width ≤ 63) (sym own) c.self.invariant.0.fits in
     let done = does_step c.pass.inside.shape _ _ c.probe-found.new.seat.me _ _ _ c.changes-changing.result c.args.call c.probe-found.result _ _ c.pass.invariant

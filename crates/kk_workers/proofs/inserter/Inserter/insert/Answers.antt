@@ -1,7 +1,7 @@
 use Rattle.std.proofs.Common.{refl, sym, ◌∙◌, ◌<◌, subst}
 use Rattle.kk_code.specs.Ticket.{generations}
 use Rattle.kk_table.specs.declared.view.Shape.{Shape}
-use Rattle.kk_workers.proofs.Bringing.{Brings-insert, Brings-freeze}
+use Rattle.kk_workers.proofs.Bringing.{InsertsInOrder-insert, InsertsInOrder-freeze}
 use Rattle.kk_workers.proofs.Kept.{IsInserter-insert}
 use Rattle.kk_workers.proofs.inserter.Inserter.insert.Goals as goal
 
@@ -13,14 +13,14 @@ freeze-requires-clause-inserter c =
 pub returns-then-reaches-clause-brings : goal.returns-then-reaches-clause-brings
 returns-then-reaches-clause-brings c =
     let freezes = c.freeze.ensures.freezes in
-    Brings-freeze (generations c.args.ticket.now) c.args.goal c.args.self.now.pass.known.calls c.insert-answer.new.pass.known.calls c.freeze.new.self.pass.known.calls
+    InsertsInOrder-freeze (generations c.args.ticket.now) c.args.goal c.args.self.now.pass.known.calls c.insert-answer.new.pass.known.calls c.freeze.new.self.pass.known.calls
     c.args.self.now.pass.known.number c.insert-answer.new.pass.known.number c.args.generation c.args.row c.insert-answer.result freezes.reply
     (subst (λ (s : Shape). c.args.generation < s.generations) c.requires.shape c.requires.generation)
     (sym c.reaches.ensures ∙ c.if-reaches.true) c.insert-answer.ensures.call freezes.call
 
 pub returns-else-reaches-clause-brings : goal.returns-else-reaches-clause-brings
 returns-else-reaches-clause-brings c =
-    Brings-insert (generations c.args.ticket.now) c.args.goal c.args.self.now.pass.known.calls c.insert-answer.new.pass.known.calls
+    InsertsInOrder-insert (generations c.args.ticket.now) c.args.goal c.args.self.now.pass.known.calls c.insert-answer.new.pass.known.calls
     c.args.self.now.pass.known.number c.args.generation c.args.row c.insert-answer.result
     (subst (λ (s : Shape). c.args.generation < s.generations) c.requires.shape c.requires.generation)
     (sym c.reaches.ensures ∙ c.if-reaches.false) c.insert-answer.ensures.call

@@ -4,8 +4,8 @@ use Rattle.kk_code.specs.Ticket.{generations}
 use Rattle.kk_frame.specs.FrameView.{pairs}
 use Rattle.kk_frame.proofs.Batches.{in_batch, batch_more}
 use Rattle.kk_table.specs.declared.view.Shape.{Shape}
-use Rattle.kk_workers.specs.Working.{Brings}
-use Rattle.kk_workers.proofs.Bringing.{Brings-nothing, Brings-append}
+use Rattle.kk_workers.specs.WorkerLoop.{InsertsInOrder}
+use Rattle.kk_workers.proofs.Bringing.{InsertsInOrder-nothing, InsertsInOrder-append}
 use Rattle.kk_workers.proofs.inserter.Inserter.insert_all.Goals as goal
 
 -- what a batch is read as past its end
@@ -15,7 +15,7 @@ no_frame = (0, record { 0 = 0 })
 pub loop-generation-init : goal.loop-generation-init
 loop-generation-init c = record {
   same = record { table = refl; number = refl; note = refl };
-  brings = Brings-nothing (generations c.args.ticket.now) c.args.goal c.args.self.now.pass.known.calls;
+  brings = InsertsInOrder-nothing (generations c.args.ticket.now) c.args.goal c.args.self.now.pass.known.calls;
   inserter = c.requires.inserter;
   few = omega arith;
 }
@@ -42,8 +42,8 @@ loop-generation-preserved c =
         number = same.number ∙ loop.invariant.same.number;
         note = same.note ∙ loop.invariant.same.note;
       };
-      brings = subst (Brings n c.args.goal old calls') (sym (batch_more frames loop.generation-index no_frame c.loop-generation-test.true))
-          (Brings-append n c.args.goal old calls calls' (take loop.generation-index (pairs frames)) ((frame.0, frame.1.0) ∷ []) loop.invariant.brings c.insert.ensures.brings);
+      brings = subst (InsertsInOrder n c.args.goal old calls') (sym (batch_more frames loop.generation-index no_frame c.loop-generation-test.true))
+          (InsertsInOrder-append n c.args.goal old calls calls' (take loop.generation-index (pairs frames)) ((frame.0, frame.1.0) ∷ []) loop.invariant.brings c.insert.ensures.brings);
       inserter = c.insert.ensures.inserter;
       few = omega (arith, c.insert.ensures.one, loop.invariant.few);
     }

@@ -1,0 +1,49 @@
+//! Why words ask for nothing.
+ghost use Rattle.std.specs.Prelude.{◌≡◌, ◌↔◌};
+ghost use Rattle.clap.specs.Values.{kind_of};
+ghost use Rattle.clap.specs.declared.error.kind.ErrorKind.TheVariants.{OutOfMemory};
+ghost use Rattle.kk_forms.specs.declared.fault.WordsFault.TheVariants.{Alloc};
+
+use clap::error::ErrorKind;
+use std::alloc::{AllocError, AllocFailed};
+use std::error::Error;
+use std::fmt;
+
+/// Why words ask for nothing.
+#[derive(Clone, Copy, Debug, PartialEq, Eq)]
+pub enum WordsFault {
+    /// The words are not of a command's form.
+    Words,
+    /// No memory. Any call may answer it, whatever the words are.
+    Alloc,
+}
+
+impl fmt::Display for WordsFault {
+    fn fmt<W: fmt::Write>(&self, f: &mut fmt::Formatter<W>) -> fmt::Result {
+        f.write_str(match self {
+            WordsFault::Words => "the words are not of a command's form",
+            WordsFault::Alloc => "out of memory",
+        })
+    }
+}
+
+impl Error for WordsFault {}
+
+impl From<AllocError> for WordsFault {
+    ghost from_gives = { λ _ e. e ≡ Alloc };
+
+    fn from(_: AllocError) -> WordsFault {
+        WordsFault::Alloc
+    }
+}
+
+/// What a refusal of clap means: memory ran out, or the words are not of the command's form.
+pub(crate) fn fault_of(error: &clap::Error) -> WordsFault
+    ensures { (result ≡ WordsFault.Alloc) ↔ (kind_of error.now ≡ OutOfMemory) }
+{
+    if error.kind() == ErrorKind::OutOfMemory {
+        WordsFault::Alloc
+    } else {
+        WordsFault::Words
+    }
+}

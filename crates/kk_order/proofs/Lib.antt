@@ -1,0 +1,4 @@
+pub mod Addressing
+pub mod Requests
+pub mod TicketWords
+pub mod Tickets

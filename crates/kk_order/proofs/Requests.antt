@@ -1,0 +1,27 @@
+-- Words ask for one thing, of the command that the first of them names.
+use Rattle.std.proofs.Common.{◌≡◌, ℕ, Bool, true, false, cond, List, [], ◌∷◌, Some, None, ap, ◌∙◌}
+use Rattle.std.specs.Prelude.{is_some}
+use Rattle.std.proofs.lemmas.Bool.{false≢true}
+use Rattle.std.proofs.lemmas.Option.{same_Some, option_and_then_some}
+use Rattle.kk_words.specs.declared.command.Command.{Command}
+use Rattle.kk_words.specs.Commands.{command_named}
+use Rattle.kk_words.specs.Request.{Request, request_of, request_for, request_from, is_of_form, matches_for}
+use Rattle.kk_order.specs.Words.{IsRequestFor, AreNotOfForm, named_in}
+
+some_request : (b : Bool) (one other : Request) → cond b (Some one) None ≡ Some other → one ≡ other
+some_request true one other is = same_Some _ _ is
+some_request false one other is = absurd (false≢true (ap is_some is))
+
+-- words that ask something of a command name it
+pub named_of : (words : List (List ℕ)) (command : Command) (request : Request) → IsRequestFor words command request → named_in words ≡ Some command
+unfolding request_of request_from
+named_of [] command request asked = absurd (false≢true (ap is_some asked.given))
+named_of (first ∷ others) command request asked =
+    option_and_then_some (λ named. request_for named (first ∷ others)) (command_named first) request asked.given
+    (λ named is given.
+    let same = some_request (is_of_form named (first ∷ others)) (request_from named (matches_for named (first ∷ others))) request given in
+    is ∙ ap Some (ap (λ r. r.command) same ∙ asked.named))
+
+-- words that name another command, or none, ask nothing of this one
+pub asks_nothing : (words : List (List ℕ)) (command : Command) → (named_in words ≡ Some command → ⊥) → AreNotOfForm words command
+asks_nothing words command other = λ request asked. other (named_of words command request asked)

@@ -1,0 +1,4 @@
+pub mod Places
+pub mod Seed
+pub mod TicketWord
+pub mod Words

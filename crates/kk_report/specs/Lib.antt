@@ -1,0 +1,5 @@
+pub mod Block
+pub mod Command
+pub mod Refusal
+pub mod Report
+pub mod Status

@@ -1,0 +1,194 @@
+-- What `pack` promises, at each of its ends.
+use Rattle.std.proofs.Common.{◌≡◌, ◌⊎◌, inl, inr, ℕ, Bool, List, length, Some, Result, Ok, Err, refl, ap, sym, subst, ◌∙◌, arith}
+use Rattle.std.specs.Prelude.{◌↔◌, IfSome, is_some}
+use Rattle.std.proofs.lemmas.Bool.{false≢true}
+use Rattle.kk_outside.specs.Causes.{CanCount}
+use Rattle.kk_outside.specs.Change.{Change, change}
+use Rattle.kk_outside.specs.Source.{SourceTold, SourceFailed, bytes_read}
+use Rattle.kk_outside.specs.Sink.{SinkTold, SinkFailed, WasGiven}
+use Rattle.kk_code.specs.Ticket.{TicketFields}
+use Rattle.kk_sender.specs.declared.fault.FileFault.{FileFault}
+use Rattle.kk_sender.specs.declared.fault.FileFault.TheVariants as file_fault
+use Rattle.kk_sender.specs.LengthRule.{wrong_length, ReadsToLength, FailsWithinLength, LeavesAfterLength}
+use Rattle.kk_sender.specs.SentFrames.{packed}
+use Rattle.kk_sender.proofs.Lengths.{right-told}
+use Rattle.kk_words.specs.declared.command.Command.TheVariants.{Pack}
+use Rattle.kk_report.specs.declared.refusal.Refusal.{Refusal}
+use Rattle.kk_report.specs.declared.refusal.Refusal.TheVariants.{Words, Ticket, Seed, Range, Listen, Input, Length, Outlet, Memory}
+use Rattle.kk_report.specs.declared.status.Status.{Status}
+use Rattle.kk_report.specs.declared.status.Status.TheVariants.{Done, OutputFault}
+use Rattle.kk_report.specs.Status.{code_of}
+use Rattle.kk_report.specs.Command.{RanThrough}
+use Rattle.kk_report.specs.Refusal.{status_of, refusal_text}
+use Rattle.kk_report.specs.Report.{concluded_text, IsConcluded}
+use Rattle.kk_order.specs.TicketWord.{NamesTicketFor}
+use Rattle.kk_run_pack.specs.Pack.{IsRefusedFor, frames_line, Packs, refusal_of}
+use Rattle.kk_report.proofs.Statuses.{IsStatusOf, not_through, through_told, sinks_failed}
+use Rattle.kk_order.proofs.TicketWords.{same_ticket_for, ticket_or_none}
+
+-- the words name no ticket, or there was no memory
+pub packs_refused : (words : List (List ℕ)) (cause : Refusal) (status : ℕ) (source : SourceTold) (file : SinkTold) (report : Change SinkTold)
+    → IsRefusedFor words cause → status ≡ status_of cause → WasGiven (refusal_text cause) report
+    → Packs words (change source source) (change file file) report status
+packs_refused words Words status source file report why is given = record {
+  words_refused = λ _. (λ _. why, λ _. is);
+  ticket_refused = λ _. (λ e. absurd (omega (arith, e, is)), λ none. absurd (why none.1.request none.1.asked));
+  input_fault = λ can. (λ e. absurd (omega (arith, e, is)), λ rose. absurd (omega (arith, rose)));
+  wrong_length = λ t named. absurd (why named.request named.asked);
+  output_fault = λ can can_report touched. absurd (not_through 1 status refl is touched);
+  no_other_status = inl is;
+  read_to_length = λ t named. absurd (why named.request named.asked);
+  failed_within_length = λ t named. absurd (why named.request named.asked);
+  remainder = λ t named. absurd (why named.request named.asked);
+  written = λ t named. absurd (why named.request named.asked);
+  refused = λ _. (Words, why, record { tells = is; given = given });
+  reported = λ t named. absurd (why named.request named.asked);
+}
+packs_refused words (Ticket fault) status source file report why is given = record {
+  words_refused = λ _. (λ e. absurd (omega (arith, e, is)), λ none. absurd (none why.request why.asked));
+  ticket_refused = λ _. (λ _. (fault, why), λ _. is);
+  input_fault = λ can. (λ e. absurd (omega (arith, e, is)), λ rose. absurd (omega (arith, rose)));
+  wrong_length = λ t named. absurd (ticket_or_none Pack words t fault named why);
+  output_fault = λ can can_report touched. absurd (not_through 2 status refl is touched);
+  no_other_status = inr (inl is);
+  read_to_length = λ t named. absurd (ticket_or_none Pack words t fault named why);
+  failed_within_length = λ t named. absurd (ticket_or_none Pack words t fault named why);
+  remainder = λ t named. absurd (ticket_or_none Pack words t fault named why);
+  written = λ t named. absurd (ticket_or_none Pack words t fault named why);
+  refused = λ _. (Ticket fault, why, record { tells = is; given = given });
+  reported = λ t named. absurd (ticket_or_none Pack words t fault named why);
+}
+packs_refused words (Range name) status source file report why is given = absurd why
+packs_refused words Input status source file report why is given = absurd why
+packs_refused words Seed status source file report why is given = absurd why
+packs_refused words Outlet status source file report why is given = absurd why
+packs_refused words Listen status source file report why is given = absurd why
+packs_refused words (Length got more) status source file report why is given = absurd why
+packs_refused words Memory status source file report why is given = record {
+  words_refused = λ other. absurd (other is);
+  ticket_refused = λ other. absurd (other is);
+  input_fault = λ can. (λ e. absurd (omega (arith, e, is)), λ rose. absurd (omega (arith, rose)));
+  wrong_length = λ t named other. absurd (other is);
+  output_fault = λ can can_report touched. absurd (not_through 8 status refl is touched);
+  no_other_status = inr (inr (inr (inl is)));
+  read_to_length = λ t named other. absurd (other is);
+  failed_within_length = λ t named four. absurd (omega (arith, four, is));
+  remainder = λ t named other. absurd (other is);
+  written = λ t named touched. absurd (not_through 8 status refl is touched);
+  refused = λ _. (Memory, tt, record { tells = is; given = given });
+  reported = λ t named touched. absurd (not_through 8 status refl is touched);
+}
+
+-- a read failed
+pub packs_failed : (words : List (List ℕ)) (t : TicketFields) (status : ℕ) (source : Change SourceTold) (file : SinkTold) (report : Change SinkTold)
+    → NamesTicketFor Pack words t → status ≡ 4 → (CanCount source.old.faults → SourceFailed source) → FailsWithinLength t.length source → WasGiven (refusal_text Input) report
+    → Packs words source (change file file) report status
+packs_failed words t status source file report named is rose before given = record {
+  words_refused = λ _. (λ e. absurd (omega (arith, e, is)), λ none. absurd (none named.request named.asked));
+  ticket_refused = λ _. (λ e. absurd (omega (arith, e, is)), λ none. absurd (ticket_or_none Pack words t none.0 named none.1));
+  input_fault = λ can. (λ _. rose can, λ _. is);
+  wrong_length = λ s other _ four. absurd (four is);
+  output_fault = λ can can_report touched. absurd (not_through 4 status refl is touched);
+  no_other_status = inr (inr (inl is));
+  read_to_length = λ s other _ four. absurd (four is);
+  failed_within_length = λ s other _. subst (λ (u : TicketFields). FailsWithinLength u.length source) (same_ticket_for Pack words t s named other) before;
+  remainder = λ s other _ four. absurd (four is);
+  written = λ s other touched. absurd (not_through 4 status refl is touched);
+  refused = λ _. (Input, (t, named, before), record { tells = is; given = given });
+  reported = λ s other touched. absurd (not_through 4 status refl is touched);
+}
+
+-- the source has another number of bytes
+pub packs_wrong_length : (words : List (List ℕ)) (t : TicketFields) (got : ℕ) (more : Bool) (status : ℕ) (source : Change SourceTold) (file : SinkTold) (report : Change SinkTold)
+    → NamesTicketFor Pack words t → status ≡ 9 → (CanCount source.old.faults → SourceFailed source → ⊥) → ReadsToLength t.length source
+    → IfSome source.old.left (λ bytes. LeavesAfterLength t.length bytes source)
+    → wrong_length t.length (length (bytes_read source)) ≡ Some (got, more) → WasGiven (refusal_text (Length got more)) report
+    → Packs words source (change file file) report status
+packs_wrong_length words t got more status source file report named is kept read left wrong given =
+    let other_length : length (bytes_read source) ≡ t.length → ⊥ = λ same. false≢true (ap is_some (sym (right-told t.length (length (bytes_read source)) same) ∙ wrong)) in
+    record {
+      words_refused = λ _. (λ e. absurd (omega (arith, e, is)), λ none. absurd (none named.request named.asked));
+      ticket_refused = λ _. (λ e. absurd (omega (arith, e, is)), λ none. absurd (ticket_or_none Pack words t none.0 named none.1));
+      input_fault = λ can. (λ e. absurd (omega (arith, e, is)), λ rose. absurd (kept can rose));
+      wrong_length = λ s other _ _. (λ _. subst (λ (u : TicketFields). length (bytes_read source) ≡ u.length → ⊥) (same_ticket_for Pack words t s named other) other_length, λ _. is);
+      output_fault = λ can can_report touched. absurd (not_through 9 status refl is touched);
+      no_other_status = inr (inr (inr (inr (inl is))));
+      read_to_length = λ s other _ _. subst (λ (u : TicketFields). ReadsToLength u.length source) (same_ticket_for Pack words t s named other) read;
+      failed_within_length = λ s other four. absurd (omega (arith, four, is));
+      remainder = λ s other _ _. subst (λ (u : TicketFields). IfSome source.old.left (λ bytes. LeavesAfterLength u.length bytes source)) (same_ticket_for Pack words t s named other) left;
+      written = λ s other touched. absurd (not_through 9 status refl is touched);
+      refused = λ _. (Length got more, (t, named, read, wrong), record { tells = is; given = given });
+      reported = λ s other touched. absurd (not_through 9 status refl is touched);
+    }
+
+-- the capture went out
+pub packs_done : (words : List (List ℕ)) (t : TicketFields) (told status : ℕ) (source : Change SourceTold) (file report : Change SinkTold)
+    → NamesTicketFor Pack words t → (CanCount source.old.faults → SourceFailed source → ⊥) → ReadsToLength t.length source
+    → IfSome source.old.left (λ bytes. LeavesAfterLength t.length bytes source) → length (bytes_read source) ≡ t.length
+    → RanThrough told → (CanCount file.old.faults → (told ≡ 5) ↔ SinkFailed file) → WasGiven (packed t (bytes_read source)) file
+    → WasGiven (concluded_text told (frames_line t (bytes_read source))) report → IsStatusOf told status → (CanCount report.old.faults → told ≡ 0 → (status ≡ 5) ↔ SinkFailed report)
+    → Packs words source file report status
+packs_done words t told status source file report named kept read left whole tells five written given same report_five =
+    let touched = through_told told status tells same in
+    record {
+      words_refused = λ _. (λ e. absurd (not_through 1 status refl e touched), λ none. absurd (none named.request named.asked));
+      ticket_refused = λ _. (λ e. absurd (not_through 2 status refl e touched), λ none. absurd (ticket_or_none Pack words t none.0 named none.1));
+      input_fault = λ can. (λ e. absurd (not_through 4 status refl e touched), λ rose. absurd (kept can rose));
+      wrong_length = λ s other _ _. (λ e. absurd (not_through 9 status refl e touched), λ wrong. absurd (wrong (whole ∙ ap (λ (u : TicketFields). u.length) (same_ticket_for Pack words t s named other))));
+      output_fault = λ can can_report _. sinks_failed told status file report tells same five report_five can can_report;
+      no_other_status = inr (inr (inr (inr (inr touched))));
+      read_to_length = λ s other _ _. subst (λ (u : TicketFields). ReadsToLength u.length source) (same_ticket_for Pack words t s named other) read;
+      failed_within_length = λ s other e. absurd (not_through 4 status refl e touched);
+      remainder = λ s other _ _. subst (λ (u : TicketFields). IfSome source.old.left (λ bytes. LeavesAfterLength u.length bytes source)) (same_ticket_for Pack words t s named other) left;
+      written = λ s other _. subst (λ u. WasGiven (packed u (bytes_read source)) file) (same_ticket_for Pack words t s named other) written;
+      refused = λ untouched_. absurd (untouched_ touched);
+      reported = λ s other _. subst (λ u. IsConcluded (frames_line u (bytes_read source)) status file report) (same_ticket_for Pack words t s named other) (record { told = told; same_or_five = same; five = five; given = given });
+    }
+
+-- ---- by what the reading of the file answers
+
+-- what reading a file of `len` bytes says of its answer
+pub record IsReading (len : ℕ) (source : Change SourceTold) (result : Result (Unit {0}) FileFault) : Type 0 where
+  pub wrong : (got : ℕ) (more : Bool) → (result ≡ Err file_fault.Read → ⊥) → ((result ≡ Err (file_fault.Length got more)) ↔ (wrong_length len (length (bytes_read source)) ≡ Some (got, more)))
+  pub failed : CanCount source.old.faults → ((result ≡ Err file_fault.Read) ↔ SourceFailed source)
+  pub read : (result ≡ Err file_fault.Read → ⊥) → ReadsToLength len source
+  pub before : result ≡ Err file_fault.Read → FailsWithinLength len source
+  pub left : (result ≡ Err file_fault.Read → ⊥) → IfSome source.old.left (λ bytes. LeavesAfterLength len bytes source)
+
+not_read : (got : ℕ) (more : Bool) → ◌≡◌ {A = Result (Unit {0}) FileFault} (Err (file_fault.Length got more)) (Err file_fault.Read) → ⊥
+not_read got more e = cc
+
+-- the file wasn't read
+pub packs_unread : (words : List (List ℕ)) (t : TicketFields) (len : ℕ) (fault : FileFault) (status : ℕ) (source : Change SourceTold) (file : SinkTold) (report : Change SinkTold)
+    → NamesTicketFor Pack words t → len ≡ t.length → IsReading len source (Err fault) → status ≡ status_of (refusal_of fault) → WasGiven (refusal_text (refusal_of fault)) report
+    → Packs words source (change file file) report status
+packs_unread words t len file_fault.Read status source file report named same reading is given =
+    packs_failed words t status source file report named is (λ can. (reading.failed can).0 refl) (subst (λ n. FailsWithinLength n source) same (reading.before refl)) given
+packs_unread words t len (file_fault.Length got more) status source file report named same reading is given =
+    let other = not_read got more in
+    packs_wrong_length words t got more status source file report named is (λ can rose. other ((reading.failed can).1 rose)) (subst (λ n. ReadsToLength n source) same (reading.read other))
+    (subst (λ n. IfSome source.old.left (λ bytes. LeavesAfterLength n bytes source)) same (reading.left other))
+    (subst (λ n. wrong_length n (length (bytes_read source)) ≡ Some (got, more)) same ((reading.wrong got more other).0 refl)) given
+
+pub was_read : ◌≡◌ {A = Result (Unit {0}) FileFault} (Ok tt) (Err file_fault.Read) → ⊥
+was_read e = cc
+
+-- it was read, and its capture went to the file's sink
+pub packs_read : (words : List (List ℕ)) (t : TicketFields) (len : ℕ) (told : Status) (status : ℕ) (bytes : List ℕ) (source : Change SourceTold) (file report : Change SinkTold)
+    → NamesTicketFor Pack words t → len ≡ t.length → IsReading len source (Ok tt) → length (bytes_read source) ≡ len → bytes ≡ bytes_read source
+    → (told ≡ Done) ⊎ (told ≡ OutputFault) → (CanCount file.old.faults → (told ≡ OutputFault) ↔ SinkFailed file) → WasGiven (packed t bytes) file
+    → WasGiven (concluded_text (code_of told) (frames_line t bytes)) report → IsStatusOf (code_of told) status → (CanCount report.old.faults → code_of told ≡ 0 → (status ≡ 5) ↔ SinkFailed report)
+    → Packs words source file report status
+packs_read words t len told status bytes source file report named same reading whole are tells five written given outcome report_five =
+    packs_done words t (code_of told) status source file report named (λ can rose. was_read ((reading.failed can).1 rose)) (subst (λ n. ReadsToLength n source) same (reading.read was_read))
+    (subst (λ n. IfSome source.old.left (λ bytes. LeavesAfterLength n bytes source)) same (reading.left was_read)) (whole ∙ same)
+    (touches told tells) (λ can. five_is told file tells (five can)) (subst (λ b. WasGiven (packed t b) file) are written)
+    (subst (λ b. WasGiven (concluded_text (code_of told) (frames_line t b)) report) are given) outcome report_five
+  where
+    touches : (s : Status) → (s ≡ Done) ⊎ (s ≡ OutputFault) → RanThrough (code_of s)
+    touches s (inl done) = inl (ap code_of done)
+    touches s (inr fault) = inr (ap code_of fault)
+
+    five_is : (s : Status) (sink : Change SinkTold) → (s ≡ Done) ⊎ (s ≡ OutputFault) → (s ≡ OutputFault) ↔ SinkFailed sink → (code_of s ≡ 5) ↔ SinkFailed sink
+    five_is s sink (inl done) h = (λ e. absurd (omega (arith, e, ap code_of done)), λ rose. ap code_of (h.1 rose))
+    five_is s sink (inr fault) h = (λ _. h.0 fault, λ _. ap code_of fault)

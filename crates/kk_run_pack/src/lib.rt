@@ -1,0 +1,9 @@
+//! The command `pack`: a file comes in, and the frames of its codewords go out.
+#![tactic(auto)]
+
+mod pack;
+mod packing;
+#[cfg(test)]
+mod tests;
+
+pub use pack::run_pack;

@@ -1,0 +1,8 @@
+//! The command `plan`: a source comes in, and the ticket of a file of its length goes out.
+#![tactic(auto)]
+
+mod plan;
+#[cfg(test)]
+mod tests;
+
+pub use plan::run_plan;

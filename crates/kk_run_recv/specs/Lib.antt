@@ -1,0 +1,3 @@
+pub mod Receiver
+pub mod Recv
+pub mod Report

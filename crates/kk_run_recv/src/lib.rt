@@ -1,0 +1,8 @@
+//! The command `recv`: all gates are received from at once, and the file goes out.
+#![tactic(auto)]
+
+mod receiver;
+mod recv;
+mod report;
+
+pub use recv::run_recv;

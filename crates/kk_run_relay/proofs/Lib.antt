@@ -1,0 +1,3 @@
+pub mod Orders
+pub mod Promises
+pub mod Runs

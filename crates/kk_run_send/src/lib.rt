@@ -1,0 +1,8 @@
+//! The command `send`: a file comes in, and goes out in datagrams.
+#![tactic(auto)]
+
+mod send;
+#[cfg(test)]
+mod tests;
+
+pub use send::run_send;

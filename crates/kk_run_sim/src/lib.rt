@@ -1,0 +1,9 @@
+//! The command `sim`: a file from a seed goes through an operator channel to a receiver, and a summary comes out.
+#![tactic(auto)]
+
+mod sim;
+mod simulation;
+#[cfg(test)]
+mod tests;
+
+pub use sim::run_sim;

@@ -1,0 +1,11 @@
+use Rattle.std.proofs.Common.{◌≡◌, [], All, vec_len, vec_capacity}
+use Rattle.kk_code.specs.Codeword.{width}
+use Rattle.kk_run_unpack.specs.Spaces.{Spans}
+use Rattle.kk_run_unpack.proofs.unpacking.Unpacking.new.Given as goal
+
+abbrev pub invariant-loop : goal.invariant-loop
+invariant-loop l = record {
+  count : vec_len l.spaces ≡ l.counter;
+  room : vec_capacity l.spaces ≡ l.generations;
+  each : All (λ space. Spans (width l.ticket.code) space []) l.spaces.items;
+}

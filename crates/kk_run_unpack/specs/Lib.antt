@@ -1,0 +1,5 @@
+pub mod Laws
+pub mod Report
+pub mod Spaces
+pub mod Unpack
+pub mod UnpackExamples

@@ -1,0 +1,13 @@
+//! The command `unpack`: a capture of frames comes in, and the file goes out.
+#![tactic(auto)]
+
+pub mod laws;
+mod receive;
+mod report;
+#[cfg(test)]
+mod tests;
+mod totals;
+mod unpack;
+mod unpacking;
+
+pub use unpack::run_unpack;
