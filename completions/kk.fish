@@ -1,0 +1,16 @@
+# Completions of kk for fish: its commands, and the options of each. No word is a file; what stands after < and > is.
+complete -c kk -f
+complete -c kk -n __fish_use_subcommand -a plan -d 'The ticket of a file under a code'
+complete -c kk -n __fish_use_subcommand -a pack -d 'The frames of a file'
+complete -c kk -n __fish_use_subcommand -a unpack -d 'The file of a capture of frames'
+complete -c kk -n __fish_use_subcommand -a send -d 'Sends a file to an address'
+complete -c kk -n __fish_use_subcommand -a relay -d 'Sends combinations of the frames that come in'
+complete -c kk -n __fish_use_subcommand -a recv -d 'The file of the frames that come in'
+complete -c kk -n __fish_use_subcommand -a sim -d 'A file through a channel that erases and injects'
+complete -c kk -n '__fish_seen_subcommand_from send relay sim' -l seed -x -d 'The key of the generator, 64 characters'
+complete -c kk -n '__fish_seen_subcommand_from send' -l extra -x -d 'Combinations of each generation'
+complete -c kk -n '__fish_seen_subcommand_from send' -l pack -x -d 'Frames of a datagram'
+complete -c kk -n '__fish_seen_subcommand_from relay' -l rate -x -d 'Combinations after each data frame'
+complete -c kk -n '__fish_seen_subcommand_from relay recv' -l idle -x -d 'The quiets in a row after which a gate ends'
+complete -c kk -n '__fish_seen_subcommand_from unpack relay recv' -l most -x -d 'The most pieces or datagrams to take'
+complete -c kk -n '__fish_seen_subcommand_from recv' -l tolerate -x -d 'Injected dimensions of a generation'
