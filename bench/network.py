@@ -3,7 +3,7 @@
 
   bench/network.py [RUNS]     RUNS of each line, 3 unless told
 
-Builds first, kk and with `cc` the program of bench/wire.c. One file of 1 MB goes each way. Each line is
+Builds first, with `cc`, the program of bench/wire.c. One file of 1 MB goes each way. Each line is
 
 - `send`, with 32 frames a datagram or with 1, to a program that counts; beside it a loop that sends as many datagrams of the
   same length;
@@ -25,7 +25,7 @@ import tempfile
 import time
 
 TOP = os.path.dirname(os.path.dirname(os.path.realpath(__file__)))
-PROGRAM = os.path.join(TOP, "crates", "kk_main", "out", "kk_main")
+PROGRAM = os.environ.get("KK") or os.path.join(TOP, "boot", "kk")
 FILE_BYTES = 1_000_000
 # the degree of the field, the low part of its modulus, l and k
 M, LOW, L, K = 31, 0x9, 24, 16
@@ -269,7 +269,8 @@ LINES += [(f"`recv`, {count} gate{'s' * (count > 1)}", run_recv, count) for coun
 
 def main():
     runs = int(sys.argv[1]) if len(sys.argv) > 1 else 3
-    subprocess.run([os.path.join(TOP, "kk"), "--build"], check=True)
+    if not os.environ.get("KK"):
+        subprocess.run([os.path.join(TOP, "boot", "check")], stdout=sys.stderr, check=True)
     signal.signal(signal.SIGALRM, lambda *_: sys.exit(f"wrong: a run took {RUN_SECONDS} seconds"))
     print("| " + " | ".join(COLUMNS) + " |")
     print("|---" * len(COLUMNS) + "|")

@@ -3,7 +3,7 @@
 
   bench/per_byte.py [GENERATIONS]     500 unless told
 
-Builds first. Each command runs under callgrind over a file of so many generations and over one of twice as many: the
+Each command runs under callgrind over a file of so many generations and over one of twice as many: the
 difference is what the bytes cost, without the start and the tables. What `unpack` writes is compared with the file, and every
 status with 0; where one is wrong the script ends with 1. It needs `valgrind`.
 """
@@ -18,7 +18,7 @@ sys.dont_write_bytecode = True
 from capture import Ticket, capture
 
 TOP = os.path.dirname(os.path.dirname(os.path.realpath(__file__)))
-PROGRAM = os.path.join(TOP, "crates", "kk_main", "out", "kk_main")
+PROGRAM = os.environ.get("KK") or os.path.join(TOP, "boot", "kk")
 GENERATION_BYTES = 62
 # what happened to a capture on its way, and how many dimensions of each codeword were erased and injected
 WAYS = [
@@ -59,7 +59,8 @@ def counts(generations):
 
 def main():
     generations = int(sys.argv[1]) if len(sys.argv) > 1 else 500
-    subprocess.run([os.path.join(TOP, "kk"), "--build"], check=True)
+    if not os.environ.get("KK"):
+        subprocess.run([os.path.join(TOP, "boot", "check")], stdout=sys.stderr, check=True)
     once, twice = counts(generations), counts(2 * generations)
     print("| command | instructions a byte |\n|---|---|")
     for name, count in once.items():

@@ -3,7 +3,7 @@
 
   bench/unpack.py [RUNS]     RUNS of each capture, 5 unless told
 
-Builds first. Each line is a code, a share of the radius and the least of the runs' times, from before the process starts
+Each line is a code, a share of the radius and the least of the runs' times, from before the process starts
 until it has ended, over a capture of so many generations that this takes a good part of a second. The last column is the time
 of a generation as a multiple of that in the first line of the same code; in the second table, of the first line of all. Where a
 file, a report or a status is wrong the line says so, and the script ends with 1.
@@ -18,7 +18,7 @@ sys.dont_write_bytecode = True
 from capture import Ticket, capture
 
 TOP = os.path.dirname(os.path.dirname(os.path.realpath(__file__)))
-PROGRAM = os.path.join(TOP, "crates", "kk_main", "out", "kk_main")
+PROGRAM = os.environ.get("KK") or os.path.join(TOP, "boot", "kk")
 LOW = {8: 0x1B, 31: 0x9, 40: 0x39, 62: (1 << 29) + 1}
 CODES = [(8, 8, 4), (31, 24, 16), (40, 20, 10), (62, 1, 1)]
 GROWTH = [(40, l, l // 2) for l in (2, 4, 8, 16, 22)]
@@ -95,7 +95,8 @@ def table(codes, runs, one_base=False):
 
 def main():
     runs = int(sys.argv[1]) if len(sys.argv) > 1 else 5
-    subprocess.run([os.path.join(TOP, "kk"), "--build"], check=True)
+    if not os.environ.get("KK"):
+        subprocess.run([os.path.join(TOP, "boot", "check")], stdout=sys.stderr, check=True)
     right = table(CODES, runs)
     print("\nHow the cost grows with l, at m = 40 and k = l / 2:")
     right = table(GROWTH, runs, one_base=True) and right

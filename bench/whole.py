@@ -3,7 +3,7 @@
 
   bench/whole.py [RUNS]      RUNS of each command, 5 unless told
 
-Builds first. Each line is a command over a file, with the least of the runs' times, from before the process starts until it
+Each line is a command over a file, with the least of the runs' times, from before the process starts until it
 has ended, what that is a byte of the file, and as a multiple of the same a byte of the tenth. What comes out of `unpack` is
 compared with what went into `pack`, and every status with 0; where one is wrong the script ends with 1.
 """
@@ -15,7 +15,7 @@ import tempfile
 import time
 
 TOP = os.path.dirname(os.path.dirname(os.path.realpath(__file__)))
-PROGRAM = os.path.join(TOP, "crates", "kk_main", "out", "kk_main")
+PROGRAM = os.environ.get("KK") or os.path.join(TOP, "boot", "kk")
 # m, the low part of the modulus, l and k: the code of the longest file of all, one with a radius of 8, and one of short messages
 CODES = [(32, 0x8D, 31, 31), (31, 0x9, 24, 16), (8, 0x1B, 8, 4)]
 MAX_GENERATIONS = 16_384
@@ -54,7 +54,8 @@ def way(code, size, runs, folder):
 
 def main():
     runs = int(sys.argv[1]) if len(sys.argv) > 1 else 5
-    subprocess.run([os.path.join(TOP, "kk"), "--build"], check=True)
+    if not os.environ.get("KK"):
+        subprocess.run([os.path.join(TOP, "boot", "check")], stdout=sys.stderr, check=True)
     print("| m, l, k | bytes | command | seconds | MB a second | ns a byte | to the tenth |")
     print("|---|---|---|---|---|---|---|")
     for code in CODES:
