@@ -1,5 +1,5 @@
 //! The whole program, over the objects that it is handed.
-ghost use Rattle.std.specs.Prelude.{◌≡◌, ◌⊎◌, ◌≤◌, ℕ, [], Some, None, length, drop, map};
+ghost use Rattle.std.specs.Prelude.{◌≡◌, ◌⊎◌, ◌≤◌, ℕ, [], Some, None, false, length, drop, map};
 ghost use Rattle.kk_outside.specs.Change.{change};
 ghost use Rattle.kk_outside.specs.Source.{bytes_read};
 ghost use Rattle.kk_code.specs.Ticket.{TicketFields};
@@ -16,6 +16,7 @@ ghost use Rattle.kk_run_send.specs.Send.{Sends};
 ghost use Rattle.kk_run_sim.specs.Sim.{Simulates};
 ghost use Rattle.kk_run_unpack.specs.Unpack.{UnpacksUnder, unpacked, Unpacks};
 ghost use Rattle.kk_workers.specs.declared.running.TheConstants.{MAX_GATES};
+ghost use Rattle.kk_top.specs.Ends.{uses};
 
 use kk_order::command_in;
 use kk_outside::{Gate, Outlet, Sink, Source};
@@ -77,36 +78,36 @@ pub fn run<R: Threads + Sync, S: Source, K: Sink, P: Sink, G: Gate + Send, O: Ou
     ensures simulates { named_in (texts words.now) ≡ Some Command.Sim
         → Simulates (texts words.now) (change (P.told report.old) (P.told report.new)) logs.new.items result }
 
-    // A run that ended at once read nothing; of `plan` that is one whose words name no code, or that had no memory. `relay`,
-    // `recv` and `sim` read nothing at all.
+    // What the command doesn't use stays as it was.
+    ensures source { (uses (texts words.now)).source ≡ false → source.new ≡ source.old }
+    ensures file { (uses (texts words.now)).file ≡ false → file.new ≡ file.old }
+    ensures gates { (uses (texts words.now)).gates ≡ false → gates.new ≡ gates.old }
+    ensures outlet { (uses (texts words.now)).outlet ≡ false → outlet.new ≡ outlet.old }
+    ensures logs { (uses (texts words.now)).logs ≡ false → logs.new ≡ logs.old }
+
+    // A run that ended at once read nothing; of `plan` that is one whose words name no code, or that had no memory.
     ensures unread { (named_in (texts words.now) ≡ Some Command.Plan → ⊥) → IsRefusalOfWords result → source.new ≡ source.old }
     ensures unread_by_plan { named_in (texts words.now) ≡ Some Command.Plan
         → (result ≡ 1) ⊎ ((result ≡ 8) ⊎ ((t : TicketFields) → NamesCode (texts words.now) t → ⊥)) → source.new ≡ source.old }
-    ensures source { (named_in (texts words.now) ≡ Some Command.Relay) ⊎ ((named_in (texts words.now) ≡ Some Command.Recv) ⊎ (named_in (texts words.now) ≡ Some Command.Sim)) → source.new ≡ source.old }
 
-    // The file's sink is called only by a run that came to its end, only for a file that has bytes, and not by `send`,
-    // `relay` or `sim`.
+    // The file's sink is called only by a run that came to its end, and only for a file that has bytes.
     ensures unwritten { (RanThrough result → ⊥) → file.new ≡ file.old }
     ensures no_bytes_unpacked { (t : TicketFields) (most : ℕ) → UnpacksUnder t most (texts words.now) result
         → unpacked t most (bytes_read (change (S.told source.old) (S.told source.new))) ≡ Some [] → file.new ≡ file.old }
     ensures no_bytes_received { (order : Order) → OrdersReceiving (texts words.now) order → (IsRefusalOfWords result → ⊥)
         → received order.ticket order.limits (changes G.told gates.old.items gates.new.items) ≡ Some [] → file.new ≡ file.old }
-    ensures file { (named_in (texts words.now) ≡ Some Command.Send) ⊎ ((named_in (texts words.now) ≡ Some Command.Relay) ⊎ (named_in (texts words.now) ≡ Some Command.Sim)) → file.new ≡ file.old }
 
-    // Only `relay` and `recv` receive datagrams, `relay` from the first gate alone, and not where they ended at once.
-    ensures gates { (named_in (texts words.now) ≡ Some Command.Relay → ⊥) → (named_in (texts words.now) ≡ Some Command.Recv → ⊥) → gates.new ≡ gates.old }
+    // `relay` receives from the first gate alone, and no gate is asked by a run that ended at once.
     ensures others { named_in (texts words.now) ≡ Some Command.Relay → drop 1 gates.new.items ≡ drop 1 gates.old.items }
     ensures unasked { named_in (texts words.now) ≡ Some Command.Relay → IsRefusalOfWords result → gates.new ≡ gates.old }
     ensures none_asked { named_in (texts words.now) ≡ Some Command.Recv → IsRefusalOfWords result → gates.new.items ≡ gates.old.items }
     ensures same_gates { named_in (texts words.now) ≡ Some Command.Recv → length gates.new.items ≡ length gates.old.items }
 
-    // Only `send` and `relay` send datagrams, not where they ended at once, and `send` not where its file wasn't read.
-    ensures outlet { (named_in (texts words.now) ≡ Some Command.Send → ⊥) → (named_in (texts words.now) ≡ Some Command.Relay → ⊥) → outlet.new ≡ outlet.old }
+    // Nothing is sent by a run that ended at once, and by `send` not where its file wasn't read.
     ensures unsent { IsRefusalOfWords result → outlet.new ≡ outlet.old }
     ensures no_file_sent { named_in (texts words.now) ≡ Some Command.Send → (RanThrough result → ⊥) → (result ≡ 7 → ⊥) → outlet.new ≡ outlet.old }
 
-    // Only `recv` and `sim` leave logs, and not where they ended at once.
-    ensures logs { (named_in (texts words.now) ≡ Some Command.Recv → ⊥) → (named_in (texts words.now) ≡ Some Command.Sim → ⊥) → logs.new ≡ logs.old }
+    // A run that ended at once leaves no log.
     ensures none_left { IsRefusalOfWords result → logs.new.items ≡ [] }
 {
     let Some(command) = command_in(words) else {
