@@ -1,5 +1,5 @@
 -- What is a ticket has no fault.
-use Rattle.std.proofs.Common.{ℕ, true, false, List, ap, sym, subst, ◌∙◌, arith}
+use Rattle.std.proofs.Common.{ℕ, List, ap, sym, subst, ◌∙◌, arith}
 use Rattle.std.specs.Prelude.{is_some}
 use Rattle.std.proofs.lemmas.Bool.{false≢true}
 use Rattle.kk_code.specs.Ticket.{TicketFields, generations}

@@ -1,9 +1,8 @@
--- What the words ask of a command, and the ranges of its numbers.
-use Rattle.std.specs.Prelude.{◌≡◌, ℕ, ◌≤◌, List, [], ◌∷◌, Option, Some, None}
+-- What the words ask of a command.
+use Rattle.std.specs.Prelude.{◌≡◌, ℕ, List, [], ◌∷◌, Option, Some, None}
 use Rattle.kk_words.specs.declared.command.Command.{Command}
 use Rattle.kk_words.specs.Commands.{command_named}
 use Rattle.kk_words.specs.Request.{Request, request_of}
-use Rattle.kk_order.specs.declared.words.TheConstants.{DATAGRAMS_LIMIT}
 
 -- the command that the first word names
 abbrev pub named_in : List (List ℕ) → Option Command
@@ -18,10 +17,3 @@ pub record IsRequestFor (words : List (List ℕ)) (command : Command) (request :
 -- the words aren't of the command's form
 abbrev pub AreNotOfForm : List (List ℕ) → Command → Type 0
 AreNotOfForm words command = (request : Request) → IsRequestFor words command request → ⊥
-
--- ---- ranges
-
--- so many datagrams, at most, may be taken of a gate
-pub record IsMaxDatagrams (number : ℕ) : Type 0 where
-  pub some : 1 ≤ number
-  pub few : number ≤ DATAGRAMS_LIMIT

@@ -2,7 +2,20 @@
 #![tactic(auto)]
 
 mod addresses;
+mod bound;
+mod fault;
+mod order;
+mod order_form;
+mod refuse;
 mod words;
 
 pub use addresses::{Addresses, places};
-pub use words::{DATAGRAMS_LIMIT, QUIETS_LIMIT, asked_of, command_in, max_datagrams_in, seed_in};
+pub use bound::{Bound, Limit, MAX_NAME_BYTES};
+pub use fault::OrderFault;
+pub use order::Order;
+pub use order_form::{OrderForm, TicketPlace};
+pub use refuse::refuse_words;
+pub use words::{DATAGRAMS_LIMIT, QUIETS_LIMIT, asked_of, command_in, seed_in};
+
+#[cfg(test)]
+mod tests;

@@ -1,10 +1,10 @@
 //! What the words ask of a command, and the ranges of its numbers.
-ghost use Rattle.std.specs.Prelude.{◌≡◌, ◌⊎◌, Err, IfOk, IfErr, IfSome, IsNone, IsSome, IsTrue, is_some, length, option_map};
+ghost use Rattle.std.specs.Prelude.{◌≡◌, ◌⊎◌, Err, IfOk, IfErr, IsSome, IsTrue, is_some, length, option_map};
 ghost use Rattle.kk_words.specs.Arguments.{default_of};
 ghost use Rattle.kk_words.specs.Request.{HasTexts, has_number, has_place, has_seed, number_of};
 ghost use Rattle.kk_report.specs.Command.{texts};
 ghost use Rattle.kk_order.specs.Seed.{seed_of};
-ghost use Rattle.kk_order.specs.Words.{IsRequestFor, AreNotOfForm, named_in, IsMaxDatagrams};
+ghost use Rattle.kk_order.specs.Words.{IsRequestFor, AreNotOfForm, named_in};
 
 use hex::FromHex;
 use kk_report::Refusal;
@@ -46,17 +46,6 @@ pub fn asked_of(alloc: Global, words: &[String], command: Command) -> Result<Ask
         return Err(Refusal::Words);
     }
     Ok(asked)
-}
-
-/// The number of `--most`, where it is in its range.
-pub fn max_datagrams_in(number: u64) -> Option<u32>
-    ensures some { IfSome result (λ most. (most ≡ number) × IsMaxDatagrams most) }
-    ensures none { IsNone result → IsMaxDatagrams number → ⊥ }
-{
-    if number < 1 || number > DATAGRAMS_LIMIT {
-        return None;
-    }
-    Some(number as u32)
 }
 
 /// The seed that a word of 64 hexadecimal digits is.
