@@ -1,5 +1,5 @@
 -- What `unpack` promises, at each of its ends.
-use Rattle.std.proofs.Common.{◌≡◌, ◌⊎◌, inl, inr, ℕ, ◌<◌, List, [], ◌∷◌, length, Option, Some, None, refl, subst, arith}
+use Rattle.std.proofs.Common.{◌≡◌, ◌⊎◌, inl, inr, ℕ, ◌<◌, List, [], ◌∷◌, length, Option, Some, None, refl, arith}
 use Rattle.std.specs.Prelude.{◌↔◌, IfSome}
 use Rattle.std.specs.Io.KnownBytes.{prepend_known}
 use Rattle.kk_outside.specs.Causes.{CanCount}
@@ -7,55 +7,37 @@ use Rattle.kk_outside.specs.Change.{Change, change}
 use Rattle.kk_outside.specs.Source.{SourceTold, SourceFailed, bytes_read}
 use Rattle.kk_outside.specs.Sink.{SinkTold, SinkFailed, WasGiven}
 use Rattle.kk_code.specs.Ticket.{TicketFields}
-use Rattle.kk_report.specs.declared.refusal.Refusal.{Refusal}
-use Rattle.kk_report.specs.declared.refusal.Refusal.TheVariants.{Words, Ticket, Seed, Range, Listen, Input, Length, Outlet, Memory}
+use Rattle.kk_report.specs.declared.refusal.Refusal.TheVariants.{Input}
 use Rattle.kk_report.specs.Command.{IsRefusalOfWords, RanThrough}
 use Rattle.kk_outcome.specs.Delivery.{IsDelivered}
-use Rattle.kk_report.specs.Refusal.{status_of, refusal_text}
-use Rattle.kk_run_unpack.specs.Unpack.{NamesTicket, IsRefusedFor, UnpacksUnder, FailsBeforeStop, IsBeforeStop, read_length, LeavesMore, Unpacks}
-use Rattle.kk_run_unpack.proofs.Asking.{refused_tells, accepted_tells, same_ticket, same_most}
+use Rattle.kk_report.specs.Refusal.{refusal_text}
+use Rattle.kk_order.specs.Order.{Cause, IsRefusedFor, Order, order_of}
+use Rattle.kk_order.specs.Refuses.{refused_text, status_of}
+use Rattle.kk_order.proofs.Refusals.{refusal_status, words_accepted, words_refused}
+use Rattle.kk_run_unpack.specs.Unpack.{UnpacksBy, max_pieces, unpack_form, FailsBeforeStop, IsBeforeStop, read_length, LeavesMore, Unpacks}
+use Rattle.kk_run_unpack.proofs.Asking.{NamesTicket, named_once}
 use Rattle.kk_run_unpack.proofs.Reporting.{IsRun}
 use Rattle.kk_report.proofs.Statuses.{IsStatusOf, not_through, once_or_through, once_not_four, three_not_through, decoded_or_through, at_once_alone, four_alone, sinks_failed}
 
--- the statuses of the refusals that come before any call on a source
-pub at_once : (words : List (List ℕ)) (cause : Refusal) (status : ℕ) → IsRefusedFor words cause → status ≡ status_of cause → IsRefusalOfWords status
-at_once words Words status why is = inl is
-at_once words (Ticket fault) status why is = inr (inl is)
-at_once words (Range name) status why is = inr (inr (inr is))
-at_once words Input status why is = absurd why
-at_once words Seed status why is = absurd why
-at_once words Outlet status why is = absurd why
-at_once words Listen status why is = absurd why
-at_once words (Length got more) status why is = absurd why
-at_once words Memory status why is = inr (inr (inl is))
-
 -- the words, the ticket or a number were refused, or there was no memory
-pub unpacks_refused : (words : List (List ℕ)) (cause : Refusal) (status : ℕ) (source : SourceTold) (file : SinkTold) (report : Change SinkTold)
-    → IsRefusedFor words cause → status ≡ status_of cause → WasGiven (refusal_text cause) report
+pub unpacks_refused : (words : List (List ℕ)) (cause : Cause) (status : ℕ) (source : SourceTold) (file : SinkTold) (report : Change SinkTold)
+    → IsRefusedFor (order_of unpack_form words) cause → status ≡ status_of cause → WasGiven (refused_text cause) report
     → Unpacks words (change source source) (change file file) report status
 unpacks_refused words cause status source file report why is given =
-    let once = at_once words cause status why is in
+    let once = refusal_status cause status is in
     record {
-      words_refused = λ other. (refused_tells words cause status why is other).words_refused;
-      ticket_refused = λ other. (refused_tells words cause status why is other).ticket_refused;
-      range_refused = λ other. (refused_tells words cause status why is other).range_refused;
-      not_decoded = λ t most under. absurd (under.accepted once);
+      refusals = words_refused (order_of unpack_form words) cause status report why is given;
+      not_decoded = λ order under. absurd (under.accepted once);
       input_fault = λ can. (λ four. absurd (once_not_four status once four), λ rose. absurd (omega (arith, rose)));
       output_fault = λ can can_report touched. absurd (once_or_through status once touched);
       no_other_status = inl once;
-      read_to_stop = λ t most under. absurd (under.accepted once);
-      failed_before_stop = λ t most under. absurd (under.accepted once);
-      remainder = λ t most under. absurd (under.accepted once);
-      more_left = λ t most under. absurd (under.accepted once);
-      written = λ t most under. absurd (under.accepted once);
-      refused = λ _. (cause, why, is, given);
-      reported = λ t most under. absurd (under.accepted once);
+      read_to_stop = λ order under. absurd (under.accepted once);
+      failed_before_stop = λ order under. absurd (under.accepted once);
+      remainder = λ order under. absurd (under.accepted once);
+      more_left = λ order under. absurd (under.accepted once);
+      written = λ order under. absurd (under.accepted once);
+      reported = λ order under. absurd (under.accepted once);
     }
-
--- what is said of the ticket and the number of pieces that the words name holds of every such pair
-pub named_once : (words : List (List ℕ)) (P : TicketFields → ℕ → Type 0) (t s : TicketFields) (most more : ℕ) → NamesTicket words t most → NamesTicket words s more → P t most → P s more
-named_once words P t s most more named other holds =
-    subst (λ n. P s n) (same_most words t s most more named other) (subst (λ u. P u most) (same_ticket words t s most more named other) holds)
 
 -- fewer bytes were taken than up to the stop, or all that there were
 leaves_more : (t : TicketFields) (most : ℕ) (taken : List ℕ) (old new : Option (List ℕ)) → IsBeforeStop t most taken → old ≡ prepend_known taken new
@@ -73,20 +55,17 @@ unpacks_failed words t most status source file report named four rose before giv
     let left = leaves_more t most (bytes_read source) source.old.left source.new.left before.before before.took.left in
     let once : IsRefusalOfWords status → ⊥ = λ is. once_not_four status is four in
     record {
-      words_refused = λ other. (accepted_tells words t most status named once).words_refused;
-      ticket_refused = λ other. (accepted_tells words t most status named once).ticket_refused;
-      range_refused = λ other. (accepted_tells words t most status named once).range_refused;
-      not_decoded = λ s more under not. absurd (not four);
+      refusals = words_accepted (order_of unpack_form words) named.order status report named.ordered once;
+      not_decoded = λ order under not. absurd (not four);
       input_fault = λ can. (λ _. rose can, λ _. four);
       output_fault = λ can can_report touched. absurd (not_through 4 status refl four touched);
       no_other_status = inr (inr (inl four));
-      read_to_stop = λ s more under not. absurd (not four);
-      failed_before_stop = λ s more under _. named_once words (λ u n. FailsBeforeStop u n source) t s most more named under.named before;
-      remainder = λ s more under not. absurd (not four);
-      more_left = λ s more under _. named_once words (λ u n. IfSome source.old.left (λ bytes. LeavesMore u n bytes source)) t s most more named under.named left;
-      written = λ s more under touched. absurd (not_through 4 status refl four touched);
-      refused = λ is. absurd (once is);
-      reported = λ s more under. record { told = 4; same_or_five = inl four; five = λ can touched. absurd (not_through 4 status refl four touched); given = given };
+      read_to_stop = λ order under not. absurd (not four);
+      failed_before_stop = λ order under _. named_once words (λ u n. FailsBeforeStop u n source) t most order named under.ordered before;
+      remainder = λ order under not. absurd (not four);
+      more_left = λ order under _. named_once words (λ u n. IfSome source.old.left (λ bytes. LeavesMore u n bytes source)) t most order named under.ordered left;
+      written = λ order under touched. absurd (not_through 4 status refl four touched);
+      reported = λ order under. record { told = 4; same_or_five = inl four; five = λ can touched. absurd (not_through 4 status refl four touched); given = given };
     }
 
 -- the status is 5 exactly where a sink failed
@@ -108,21 +87,18 @@ unpacks_received words t most told status text source file report named run kept
     let once : IsRefusalOfWords status → ⊥ = λ once. at_once_alone status once no_other in
     let four : status ≡ 4 → ⊥ = λ four. four_alone status four no_other in
     record {
-      words_refused = λ other. (accepted_tells words t most status named once).words_refused;
-      ticket_refused = λ other. (accepted_tells words t most status named once).ticket_refused;
-      range_refused = λ other. (accepted_tells words t most status named once).range_refused;
-      not_decoded = λ s more under. (run_of under).not_decoded;
+      refusals = words_accepted (order_of unpack_form words) named.order status report named.ordered once;
+      not_decoded = λ order under. (run_of under).not_decoded;
       input_fault = λ can. (λ e. absurd (four e), λ rose. absurd (omega (arith, rose, kept)));
       output_fault = delivered_five told status text file report delivered same five;
       no_other_status = inr (elim no_other [ inl three ↦ inl three | inr touched ↦ inr (inr touched) ]);
-      read_to_stop = λ s more under. (run_of under).read_to_stop;
-      failed_before_stop = λ s more under. (run_of under).failed_before_stop;
-      remainder = λ s more under. (run_of under).remainder;
-      more_left = λ s more under. (run_of under).more_left;
-      written = λ s more under. (run_of under).written;
-      refused = λ is. absurd (once is);
-      reported = λ s more under. (run_of under).reported;
+      read_to_stop = λ order under. (run_of under).read_to_stop;
+      failed_before_stop = λ order under. (run_of under).failed_before_stop;
+      remainder = λ order under. (run_of under).remainder;
+      more_left = λ order under. (run_of under).more_left;
+      written = λ order under. (run_of under).written;
+      reported = λ order under. (run_of under).reported;
     }
   where
-    run_of : {s : TicketFields} {more : ℕ} → UnpacksUnder s more words status → IsRun s more status source file report
-    run_of {s} {more} under = named_once words (λ u n. IsRun u n status source file report) t s most more named under.named run
+    run_of : {order : Order} → UnpacksBy order words status → IsRun order.ticket (max_pieces order) status source file report
+    run_of {order} under = named_once words (λ u n. IsRun u n status source file report) t most order named under.ordered run

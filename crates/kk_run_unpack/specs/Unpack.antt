@@ -1,63 +1,50 @@
 -- `unpack`: a capture of frames comes in, and the file goes out.
-use Rattle.std.specs.Prelude.{◌≡◌, ◌↔◌, ◌⊎◌, ℕ, ◌==◌, ◌||◌, if◌then◌else◌, ◌<◌, Option, Some, None, IfSome, IsSomeAnd, List, [], ◌∷◌, ◌++◌, length, take, drop, sum_by}
+use Rattle.std.specs.Prelude.{◌≡◌, ◌↔◌, ◌⊎◌, ℕ, ◌==◌, ◌||◌, if◌then◌else◌, ◌<◌, Option, Some, None, IfSome, IsSomeAnd, List, [], ◌∷◌, ◌++◌, length, take, drop, sum_by, Ok, codes}
 use Rattle.kk_outside.specs.Causes.{CanCount}
 use Rattle.kk_outside.specs.Change.{Change}
 use Rattle.kk_outside.specs.Source.{Read, AtEnd, Failed, SourceTold, SourceFailed, Took, bytes_read}
 use Rattle.kk_outside.specs.Sink.{SinkTold, SinkFailed, WasGiven}
 use Rattle.kk_code.specs.Ticket.{TicketFields}
-use Rattle.kk_code.specs.TicketText.{IsTicketText, IsFirstFault}
-use Rattle.kk_code.specs.declared.fault.TicketFault.{TicketFault}
 use Rattle.kk_frame.specs.declared.frame.TheConstants.{FRAME_BYTES}
 use Rattle.kk_frame.specs.declared.limits.Limits.{Limits}
 use Rattle.kk_frame.specs.declared.gate_count.GateCount.{GateCount}
 use Rattle.kk_frame.specs.Capture.{capture_events}
 use Rattle.kk_frame.specs.Events.{datagrams, stop, taken, counts}
 use Rattle.kk_outside.specs.declared.event.Event.{Event}
-use Rattle.kk_words.specs.declared.command.Command.TheVariants.{Unpack}
-use Rattle.kk_words.specs.declared.argument.Name.TheVariants.{Most}
-use Rattle.kk_words.specs.Request.{Request, number_of}
-use Rattle.kk_report.specs.declared.refusal.Refusal.{Refusal}
-use Rattle.kk_report.specs.declared.refusal.Refusal.TheVariants.{Words, Ticket, Seed, Range, Listen, Input, Length, Outlet, Memory}
+use Rattle.kk_report.specs.declared.refusal.Refusal.TheVariants.{Input}
 use Rattle.kk_outcome.specs.Answers.{file_text, outcomes_of, totals_of}
 use Rattle.kk_report.specs.Command.{IsRefusalOfWords, RanThrough}
-use Rattle.kk_report.specs.Refusal.{status_of, refusal_text}
+use Rattle.kk_report.specs.Refusal.{refusal_text}
 use Rattle.kk_outcome.specs.Outcome.{received_lines}
 use Rattle.kk_report.specs.Report.{status_line}
-use Rattle.kk_order.specs.Words.{IsRequestFor, AreNotOfForm, IsMaxDatagrams}
+use Rattle.kk_forms.specs.Form.{NumberOption, Word}
+use Rattle.kk_order.specs.Order.{Order, OrderForm, number_of, order_of}
+use Rattle.kk_order.specs.Refuses.{Refuses}
+use Rattle.kk_order.specs.declared.bound.Limit.TheVariants.{Exactly}
+use Rattle.kk_order.specs.declared.order_form.TicketPlace.TheVariants.{First}
+use Rattle.kk_order.specs.declared.words.TheConstants.{DATAGRAMS_LIMIT}
 
 -- ---- the words
 
--- The words ask for `unpack`, with this text of a ticket and at most so many pieces.
-pub record AsksToUnpack (words : List (List ℕ)) (text : List ℕ) (most : ℕ) : Type 0 where
-  pub request : Request
-  pub asked : IsRequestFor words Unpack request
-  pub ticket : request.texts ≡ text ∷ []
-  pub pieces : number_of request.numbers Most ≡ Some most
+-- The form of an order to unpack: the ticket, and how many pieces are taken at most, ten million where no number is given.
+abbrev pub unpack_form : OrderForm
+unpack_form = record {
+  words = record {
+    name = codes "unpack";
+    arguments = Word (codes "TICKET") ∷ NumberOption (codes "most") (Some 10000000) ∷ [];
+  };
+  ticket = First;
+  bounds = record { name = codes "most"; least = 1; most = Exactly DATAGRAMS_LIMIT } ∷ [];
+  listeners = None;
+}
 
--- The words ask to unpack under this ticket, with at most so many pieces, which are in their range.
-pub record NamesTicket (words : List (List ℕ)) (t : TicketFields) (most : ℕ) : Type 0 where
-  pub text : List ℕ
-  pub asked : AsksToUnpack words text most
-  pub ticket : IsTicketText text t
-  pub in_range : IsMaxDatagrams most
+-- how many pieces are taken at most; an order to unpack has this number
+abbrev pub max_pieces : Order → ℕ
+max_pieces order = number_of order (codes "most")
 
--- why these words are refused before any call on the source
-abbrev pub IsRefusedFor : List (List ℕ) → Refusal → Type 0
-IsRefusedFor words Words = AreNotOfForm words Unpack
-IsRefusedFor words (Ticket fault) = (text : List ℕ) × (most : ℕ) × AsksToUnpack words text most × IsFirstFault text fault
-IsRefusedFor words (Range Most) =
-    (text : List ℕ) × (most : ℕ) × (t : TicketFields) × AsksToUnpack words text most × IsTicketText text t × ¬ IsMaxDatagrams most
-IsRefusedFor words (Range name) = ⊥
-IsRefusedFor words Input = ⊥
-IsRefusedFor words Seed = ⊥
-IsRefusedFor words Outlet = ⊥
-IsRefusedFor words Listen = ⊥
-IsRefusedFor words (Length got more) = ⊥
-IsRefusedFor words Memory = Unit {0}
-
--- A run with these words and this status unpacked under this ticket, with at most so many pieces: it wasn't refused.
-pub record UnpacksUnder (t : TicketFields) (most : ℕ) (words : List (List ℕ)) (status : ℕ) : Type 0 where
-  pub named : NamesTicket words t most
+-- A run with these words and this status unpacked by this order: it wasn't refused.
+pub record UnpacksBy (order : Order) (words : List (List ℕ)) (status : ℕ) : Type 0 where
+  pub ordered : order_of unpack_form words ≡ Ok order
   pub accepted : IsRefusalOfWords status → ⊥
 
 -- ---- the capture
@@ -155,21 +142,18 @@ IsUnpackStatus status = IsRefusalOfWords status ⊎ ((status ≡ 3) ⊎ ((status
 -- What a run of `unpack` makes of its source and its two sinks, and which status it has.
 pub record Unpacks (words : List (List ℕ)) (source : Change SourceTold) (file report : Change SinkTold) (status : ℕ) : Type 0 where
   -- Which status comes: 8 is want of memory, and 0 comes where no other status does.
-  pub words_refused : (status ≡ 8 → ⊥) → ((status ≡ 1) ↔ IsRefusedFor words Words)
-  pub ticket_refused : (status ≡ 8 → ⊥) → ((status ≡ 2) ↔ ((fault : TicketFault) × IsRefusedFor words (Ticket fault)))
-  pub range_refused : (status ≡ 8 → ⊥) → ((status ≡ 11) ↔ IsRefusedFor words (Range Most))
-  pub not_decoded : (t : TicketFields) (most : ℕ) → UnpacksUnder t most words status → (status ≡ 4 → ⊥) → ((status ≡ 3) ↔ (unpacked t most (bytes_read source) ≡ None))
+  pub refusals : Refuses (order_of unpack_form words) status report
+  pub not_decoded : (order : Order) → UnpacksBy order words status → (status ≡ 4 → ⊥) → ((status ≡ 3) ↔ (unpacked order.ticket (max_pieces order) (bytes_read source) ≡ None))
   pub input_fault : CanCount source.old.faults → ((status ≡ 4) ↔ SourceFailed source)
   pub output_fault : CanCount file.old.faults → CanCount report.old.faults → RanThrough status → ((status ≡ 5) ↔ (SinkFailed file ⊎ SinkFailed report))
   pub no_other_status : IsUnpackStatus status
   -- What was read: exactly the bytes up to the stop, unless a read failed before it.
-  pub read_to_stop : (t : TicketFields) (most : ℕ) → UnpacksUnder t most words status → (status ≡ 4 → ⊥) → ReadsUpToStop t most source
-  pub failed_before_stop : (t : TicketFields) (most : ℕ) → UnpacksUnder t most words status → status ≡ 4 → FailsBeforeStop t most source
+  pub read_to_stop : (order : Order) → UnpacksBy order words status → (status ≡ 4 → ⊥) → ReadsUpToStop order.ticket (max_pieces order) source
+  pub failed_before_stop : (order : Order) → UnpacksBy order words status → status ≡ 4 → FailsBeforeStop order.ticket (max_pieces order) source
   -- The same where the source tells the bytes that it has left.
-  pub remainder : (t : TicketFields) (most : ℕ) → UnpacksUnder t most words status → (status ≡ 4 → ⊥) → IfSome source.old.left (λ bytes. LeavesRemainder t most bytes source)
-  pub more_left : (t : TicketFields) (most : ℕ) → UnpacksUnder t most words status → status ≡ 4 → IfSome source.old.left (λ bytes. LeavesMore t most bytes source)
+  pub remainder : (order : Order) → UnpacksBy order words status → (status ≡ 4 → ⊥) → IfSome source.old.left (λ bytes. LeavesRemainder order.ticket (max_pieces order) bytes source)
+  pub more_left : (order : Order) → UnpacksBy order words status → status ≡ 4 → IfSome source.old.left (λ bytes. LeavesMore order.ticket (max_pieces order) bytes source)
   -- What the file's sink holds.
-  pub written : (t : TicketFields) (most : ℕ) → UnpacksUnder t most words status → RanThrough status → IsSomeAnd (unpacked t most (bytes_read source)) (λ text. WasGiven text file)
+  pub written : (order : Order) → UnpacksBy order words status → RanThrough status → IsSomeAnd (unpacked order.ticket (max_pieces order) (bytes_read source)) (λ text. WasGiven text file)
   -- What the report's sink holds.
-  pub refused : IsRefusalOfWords status → (cause : Refusal) × IsRefusedFor words cause × (status ≡ status_of cause) × WasGiven (refusal_text cause) report
-  pub reported : (t : TicketFields) (most : ℕ) → UnpacksUnder t most words status → IsReported t most (bytes_read source) status file report
+  pub reported : (order : Order) → UnpacksBy order words status → IsReported order.ticket (max_pieces order) (bytes_read source) status file report

@@ -10,4 +10,4 @@ mod totals;
 mod unpack;
 mod unpacking;
 
-pub use unpack::run_unpack;
+pub use unpack::{UNPACK, run_unpack};
