@@ -12,118 +12,107 @@ use Rattle.kk_sender.specs.declared.fault.FileFault.TheVariants as file_fault
 use Rattle.kk_sender.specs.LengthRule.{wrong_length, ReadsToLength, FailsWithinLength, LeavesAfterLength}
 use Rattle.kk_sender.specs.SentFrames.{packed}
 use Rattle.kk_sender.proofs.Lengths.{right-told}
-use Rattle.kk_words.specs.declared.command.Command.TheVariants.{Pack}
-use Rattle.kk_report.specs.declared.refusal.Refusal.{Refusal}
-use Rattle.kk_report.specs.declared.refusal.Refusal.TheVariants.{Words, Ticket, Seed, Range, Listen, Input, Length, Outlet, Memory}
+use Rattle.kk_report.specs.declared.refusal.Refusal.TheVariants.{Input, Length}
 use Rattle.kk_report.specs.declared.status.Status.{Status}
 use Rattle.kk_report.specs.declared.status.Status.TheVariants.{Done, OutputFault}
 use Rattle.kk_report.specs.Status.{code_of}
-use Rattle.kk_report.specs.Command.{RanThrough}
-use Rattle.kk_report.specs.Refusal.{status_of, refusal_text}
+use Rattle.kk_report.specs.Command.{IsRefusalOfWords, RanThrough}
+use Rattle.kk_report.specs.Refusal.{status_of as refusal_status_of, refusal_text}
 use Rattle.kk_report.specs.Report.{concluded_text, IsConcluded}
-use Rattle.kk_order.specs.TicketWord.{NamesTicketFor}
-use Rattle.kk_run_pack.specs.Pack.{IsRefusedFor, frames_line, Packs, refusal_of}
-use Rattle.kk_report.proofs.Statuses.{IsStatusOf, not_through, through_told, sinks_failed}
-use Rattle.kk_order.proofs.TicketWords.{same_ticket_for, ticket_or_none}
+use Rattle.kk_order.specs.Order.{Cause, IsRefusedFor, Order, order_of}
+use Rattle.kk_order.specs.Refuses.{refused_text, status_of}
+use Rattle.kk_order.proofs.Refusals.{refusal_status, words_accepted, words_refused}
+use Rattle.kk_run_pack.specs.Pack.{frames_line, pack_form, Packs, refusal_of}
+use Rattle.kk_run_pack.proofs.Asking.{NamesTicket, named_once, only_memory, refused_alone}
+use Rattle.kk_report.proofs.Statuses.{IsStatusOf, not_through, once_or_through, once_not_four, through_told, sinks_failed}
 
--- the words name no ticket, or there was no memory
-pub packs_refused : (words : List (List ℕ)) (cause : Refusal) (status : ℕ) (source : SourceTold) (file : SinkTold) (report : Change SinkTold)
-    → IsRefusedFor words cause → status ≡ status_of cause → WasGiven (refusal_text cause) report
+-- a run that was refused while it read neither ended at once nor ran through
+once_or_late : (status : ℕ) → IsRefusalOfWords status → (status ≡ 4) ⊎ (status ≡ 9) → ⊥
+once_or_late status once late = grind arith
+
+late_or_through : (status : ℕ) → (status ≡ 4) ⊎ (status ≡ 9) → RanThrough status → ⊥
+late_or_through status late touched = grind arith
+
+-- the words or the ticket were refused, or there was no memory
+pub packs_refused : (words : List (List ℕ)) (cause : Cause) (status : ℕ) (source : SourceTold) (file : SinkTold) (report : Change SinkTold)
+    → IsRefusedFor (order_of pack_form words) cause → status ≡ status_of cause → WasGiven (refused_text cause) report
     → Packs words (change source source) (change file file) report status
-packs_refused words Words status source file report why is given = record {
-  words_refused = λ _. (λ _. why, λ _. is);
-  ticket_refused = λ _. (λ e. absurd (omega (arith, e, is)), λ none. absurd (why none.1.request none.1.asked));
-  input_fault = λ can. (λ e. absurd (omega (arith, e, is)), λ rose. absurd (omega (arith, rose)));
-  wrong_length = λ t named. absurd (why named.request named.asked);
-  output_fault = λ can can_report touched. absurd (not_through 1 status refl is touched);
-  no_other_status = inl is;
-  read_to_length = λ t named. absurd (why named.request named.asked);
-  failed_within_length = λ t named. absurd (why named.request named.asked);
-  remainder = λ t named. absurd (why named.request named.asked);
-  written = λ t named. absurd (why named.request named.asked);
-  refused = λ _. (Words, why, record { tells = is; given = given });
-  reported = λ t named. absurd (why named.request named.asked);
-}
-packs_refused words (Ticket fault) status source file report why is given = record {
-  words_refused = λ _. (λ e. absurd (omega (arith, e, is)), λ none. absurd (none why.request why.asked));
-  ticket_refused = λ _. (λ _. (fault, why), λ _. is);
-  input_fault = λ can. (λ e. absurd (omega (arith, e, is)), λ rose. absurd (omega (arith, rose)));
-  wrong_length = λ t named. absurd (ticket_or_none Pack words t fault named why);
-  output_fault = λ can can_report touched. absurd (not_through 2 status refl is touched);
-  no_other_status = inr (inl is);
-  read_to_length = λ t named. absurd (ticket_or_none Pack words t fault named why);
-  failed_within_length = λ t named. absurd (ticket_or_none Pack words t fault named why);
-  remainder = λ t named. absurd (ticket_or_none Pack words t fault named why);
-  written = λ t named. absurd (ticket_or_none Pack words t fault named why);
-  refused = λ _. (Ticket fault, why, record { tells = is; given = given });
-  reported = λ t named. absurd (ticket_or_none Pack words t fault named why);
-}
-packs_refused words (Range name) status source file report why is given = absurd why
-packs_refused words Input status source file report why is given = absurd why
-packs_refused words Seed status source file report why is given = absurd why
-packs_refused words Outlet status source file report why is given = absurd why
-packs_refused words Listen status source file report why is given = absurd why
-packs_refused words (Length got more) status source file report why is given = absurd why
-packs_refused words Memory status source file report why is given = record {
-  words_refused = λ other. absurd (other is);
-  ticket_refused = λ other. absurd (other is);
-  input_fault = λ can. (λ e. absurd (omega (arith, e, is)), λ rose. absurd (omega (arith, rose)));
-  wrong_length = λ t named other. absurd (other is);
-  output_fault = λ can can_report touched. absurd (not_through 8 status refl is touched);
-  no_other_status = inr (inr (inr (inl is)));
-  read_to_length = λ t named other. absurd (other is);
-  failed_within_length = λ t named four. absurd (omega (arith, four, is));
-  remainder = λ t named other. absurd (other is);
-  written = λ t named touched. absurd (not_through 8 status refl is touched);
-  refused = λ _. (Memory, tt, record { tells = is; given = given });
-  reported = λ t named touched. absurd (not_through 8 status refl is touched);
-}
+packs_refused words cause status source file report why is given =
+    let once = refusal_status cause status is in
+    let refusals = words_refused (order_of pack_form words) cause status report why is given in
+    let eight : (order : Order) → order_of pack_form words ≡ Ok order → status ≡ 8 = λ order ordered. only_memory (order_of pack_form words) order cause status ordered why is in
+    record {
+      refusals = refusals;
+      input_fault = λ can. (λ four. absurd (once_not_four status once four), λ rose. absurd (omega (arith, rose)));
+      wrong_length = λ order ordered other. absurd (other (eight order ordered));
+      output_fault = λ can can_report touched. absurd (once_or_through status once touched);
+      no_other_status = refused_alone words status report refusals once;
+      read_to_length = λ order ordered other. absurd (other (eight order ordered));
+      failed_within_length = λ order ordered four. absurd (once_not_four status once four);
+      remainder = λ order ordered other. absurd (other (eight order ordered));
+      written = λ order ordered touched. absurd (once_or_through status once touched);
+      source_refused = λ late. absurd (once_or_late status once late);
+      reported = λ order ordered touched. absurd (once_or_through status once touched);
+    }
 
 -- a read failed
 pub packs_failed : (words : List (List ℕ)) (t : TicketFields) (status : ℕ) (source : Change SourceTold) (file : SinkTold) (report : Change SinkTold)
-    → NamesTicketFor Pack words t → status ≡ 4 → (CanCount source.old.faults → SourceFailed source) → FailsWithinLength t.length source → WasGiven (refusal_text Input) report
+    → NamesTicket words t → status ≡ 4 → (CanCount source.old.faults → SourceFailed source) → FailsWithinLength t.length source → WasGiven (refusal_text Input) report
     → Packs words source (change file file) report status
-packs_failed words t status source file report named is rose before given = record {
-  words_refused = λ _. (λ e. absurd (omega (arith, e, is)), λ none. absurd (none named.request named.asked));
-  ticket_refused = λ _. (λ e. absurd (omega (arith, e, is)), λ none. absurd (ticket_or_none Pack words t none.0 named none.1));
-  input_fault = λ can. (λ _. rose can, λ _. is);
-  wrong_length = λ s other _ four. absurd (four is);
-  output_fault = λ can can_report touched. absurd (not_through 4 status refl is touched);
-  no_other_status = inr (inr (inl is));
-  read_to_length = λ s other _ four. absurd (four is);
-  failed_within_length = λ s other _. subst (λ (u : TicketFields). FailsWithinLength u.length source) (same_ticket_for Pack words t s named other) before;
-  remainder = λ s other _ four. absurd (four is);
-  written = λ s other touched. absurd (not_through 4 status refl is touched);
-  refused = λ _. (Input, (t, named, before), record { tells = is; given = given });
-  reported = λ s other touched. absurd (not_through 4 status refl is touched);
-}
+packs_failed words t status source file report named is rose before given =
+    let accepted : IsRefusalOfWords status → ⊥ = λ once. once_or_late status once (inl is) in
+    record {
+      refusals = words_accepted (order_of pack_form words) named.order status report named.ordered accepted;
+      input_fault = λ can. (λ _. rose can, λ _. is);
+      wrong_length = λ order ordered _ four. absurd (four is);
+      output_fault = λ can can_report touched. absurd (not_through 4 status refl is touched);
+      no_other_status = inr (inr (inl is));
+      read_to_length = λ order ordered _ four. absurd (four is);
+      failed_within_length = λ order ordered _. named_once words (λ (u : TicketFields). FailsWithinLength u.length source) t order named ordered before;
+      remainder = λ order ordered _ four. absurd (four is);
+      written = λ order ordered touched. absurd (not_through 4 status refl is touched);
+      source_refused = λ _. record {
+        order = named.order;
+        ordered = named.ordered;
+        fault = file_fault.Read;
+        wrong = subst (λ (u : TicketFields). FailsWithinLength u.length source) named.ticket before;
+        refused = record { tells = is; given = given };
+      };
+      reported = λ order ordered touched. absurd (not_through 4 status refl is touched);
+    }
 
 -- the source has another number of bytes
 pub packs_wrong_length : (words : List (List ℕ)) (t : TicketFields) (got : ℕ) (more : Bool) (status : ℕ) (source : Change SourceTold) (file : SinkTold) (report : Change SinkTold)
-    → NamesTicketFor Pack words t → status ≡ 9 → (CanCount source.old.faults → SourceFailed source → ⊥) → ReadsToLength t.length source
+    → NamesTicket words t → status ≡ 9 → (CanCount source.old.faults → SourceFailed source → ⊥) → ReadsToLength t.length source
     → IfSome source.old.left (λ bytes. LeavesAfterLength t.length bytes source)
     → wrong_length t.length (length (bytes_read source)) ≡ Some (got, more) → WasGiven (refusal_text (Length got more)) report
     → Packs words source (change file file) report status
 packs_wrong_length words t got more status source file report named is kept read left wrong given =
     let other_length : length (bytes_read source) ≡ t.length → ⊥ = λ same. false≢true (ap is_some (sym (right-told t.length (length (bytes_read source)) same) ∙ wrong)) in
+    let accepted : IsRefusalOfWords status → ⊥ = λ once. once_or_late status once (inr is) in
     record {
-      words_refused = λ _. (λ e. absurd (omega (arith, e, is)), λ none. absurd (none named.request named.asked));
-      ticket_refused = λ _. (λ e. absurd (omega (arith, e, is)), λ none. absurd (ticket_or_none Pack words t none.0 named none.1));
+      refusals = words_accepted (order_of pack_form words) named.order status report named.ordered accepted;
       input_fault = λ can. (λ e. absurd (omega (arith, e, is)), λ rose. absurd (kept can rose));
-      wrong_length = λ s other _ _. (λ _. subst (λ (u : TicketFields). length (bytes_read source) ≡ u.length → ⊥) (same_ticket_for Pack words t s named other) other_length, λ _. is);
+      wrong_length = λ order ordered _ _. (λ _. named_once words (λ (u : TicketFields). length (bytes_read source) ≡ u.length → ⊥) t order named ordered other_length, λ _. is);
       output_fault = λ can can_report touched. absurd (not_through 9 status refl is touched);
       no_other_status = inr (inr (inr (inr (inl is))));
-      read_to_length = λ s other _ _. subst (λ (u : TicketFields). ReadsToLength u.length source) (same_ticket_for Pack words t s named other) read;
-      failed_within_length = λ s other four. absurd (omega (arith, four, is));
-      remainder = λ s other _ _. subst (λ (u : TicketFields). IfSome source.old.left (λ bytes. LeavesAfterLength u.length bytes source)) (same_ticket_for Pack words t s named other) left;
-      written = λ s other touched. absurd (not_through 9 status refl is touched);
-      refused = λ _. (Length got more, (t, named, read, wrong), record { tells = is; given = given });
-      reported = λ s other touched. absurd (not_through 9 status refl is touched);
+      read_to_length = λ order ordered _ _. named_once words (λ (u : TicketFields). ReadsToLength u.length source) t order named ordered read;
+      failed_within_length = λ order ordered four. absurd (omega (arith, four, is));
+      remainder = λ order ordered _ _. named_once words (λ (u : TicketFields). IfSome source.old.left (λ bytes. LeavesAfterLength u.length bytes source)) t order named ordered left;
+      written = λ order ordered touched. absurd (not_through 9 status refl is touched);
+      source_refused = λ _. record {
+        order = named.order;
+        ordered = named.ordered;
+        fault = file_fault.Length got more;
+        wrong = subst (λ (u : TicketFields). ReadsToLength u.length source × (wrong_length u.length (length (bytes_read source)) ≡ Some (got, more))) named.ticket (read, wrong);
+        refused = record { tells = is; given = given };
+      };
+      reported = λ order ordered touched. absurd (not_through 9 status refl is touched);
     }
 
 -- the capture went out
 pub packs_done : (words : List (List ℕ)) (t : TicketFields) (told status : ℕ) (source : Change SourceTold) (file report : Change SinkTold)
-    → NamesTicketFor Pack words t → (CanCount source.old.faults → SourceFailed source → ⊥) → ReadsToLength t.length source
+    → NamesTicket words t → (CanCount source.old.faults → SourceFailed source → ⊥) → ReadsToLength t.length source
     → IfSome source.old.left (λ bytes. LeavesAfterLength t.length bytes source) → length (bytes_read source) ≡ t.length
     → RanThrough told → (CanCount file.old.faults → (told ≡ 5) ↔ SinkFailed file) → WasGiven (packed t (bytes_read source)) file
     → WasGiven (concluded_text told (frames_line t (bytes_read source))) report → IsStatusOf told status → (CanCount report.old.faults → told ≡ 0 → (status ≡ 5) ↔ SinkFailed report)
@@ -131,18 +120,20 @@ pub packs_done : (words : List (List ℕ)) (t : TicketFields) (told status : ℕ
 packs_done words t told status source file report named kept read left whole tells five written given same report_five =
     let touched = through_told told status tells same in
     record {
-      words_refused = λ _. (λ e. absurd (not_through 1 status refl e touched), λ none. absurd (none named.request named.asked));
-      ticket_refused = λ _. (λ e. absurd (not_through 2 status refl e touched), λ none. absurd (ticket_or_none Pack words t none.0 named none.1));
+      refusals = words_accepted (order_of pack_form words) named.order status report named.ordered (λ once. once_or_through status once touched);
       input_fault = λ can. (λ e. absurd (not_through 4 status refl e touched), λ rose. absurd (kept can rose));
-      wrong_length = λ s other _ _. (λ e. absurd (not_through 9 status refl e touched), λ wrong. absurd (wrong (whole ∙ ap (λ (u : TicketFields). u.length) (same_ticket_for Pack words t s named other))));
+      wrong_length = λ order ordered _ _. (
+        λ e. absurd (not_through 9 status refl e touched),
+        λ wrong. absurd (wrong (named_once words (λ (u : TicketFields). length (bytes_read source) ≡ u.length) t order named ordered whole)),
+      );
       output_fault = λ can can_report _. sinks_failed told status file report tells same five report_five can can_report;
       no_other_status = inr (inr (inr (inr (inr touched))));
-      read_to_length = λ s other _ _. subst (λ (u : TicketFields). ReadsToLength u.length source) (same_ticket_for Pack words t s named other) read;
-      failed_within_length = λ s other e. absurd (not_through 4 status refl e touched);
-      remainder = λ s other _ _. subst (λ (u : TicketFields). IfSome source.old.left (λ bytes. LeavesAfterLength u.length bytes source)) (same_ticket_for Pack words t s named other) left;
-      written = λ s other _. subst (λ u. WasGiven (packed u (bytes_read source)) file) (same_ticket_for Pack words t s named other) written;
-      refused = λ untouched_. absurd (untouched_ touched);
-      reported = λ s other _. subst (λ u. IsConcluded (frames_line u (bytes_read source)) status file report) (same_ticket_for Pack words t s named other) (record { told = told; same_or_five = same; five = five; given = given });
+      read_to_length = λ order ordered _ _. named_once words (λ (u : TicketFields). ReadsToLength u.length source) t order named ordered read;
+      failed_within_length = λ order ordered e. absurd (not_through 4 status refl e touched);
+      remainder = λ order ordered _ _. named_once words (λ (u : TicketFields). IfSome source.old.left (λ bytes. LeavesAfterLength u.length bytes source)) t order named ordered left;
+      written = λ order ordered _. named_once words (λ u. WasGiven (packed u (bytes_read source)) file) t order named ordered written;
+      source_refused = λ late. absurd (late_or_through status late touched);
+      reported = λ order ordered _. named_once words (λ u. IsConcluded (frames_line u (bytes_read source)) status file report) t order named ordered (record { told = told; same_or_five = same; five = five; given = given });
     }
 
 -- ---- by what the reading of the file answers
@@ -160,7 +151,7 @@ not_read got more e = cc
 
 -- the file wasn't read
 pub packs_unread : (words : List (List ℕ)) (t : TicketFields) (len : ℕ) (fault : FileFault) (status : ℕ) (source : Change SourceTold) (file : SinkTold) (report : Change SinkTold)
-    → NamesTicketFor Pack words t → len ≡ t.length → IsReading len source (Err fault) → status ≡ status_of (refusal_of fault) → WasGiven (refusal_text (refusal_of fault)) report
+    → NamesTicket words t → len ≡ t.length → IsReading len source (Err fault) → status ≡ refusal_status_of (refusal_of fault) → WasGiven (refusal_text (refusal_of fault)) report
     → Packs words source (change file file) report status
 packs_unread words t len file_fault.Read status source file report named same reading is given =
     packs_failed words t status source file report named is (λ can. (reading.failed can).0 refl) (subst (λ n. FailsWithinLength n source) same (reading.before refl)) given
@@ -175,7 +166,7 @@ was_read e = cc
 
 -- it was read, and its capture went to the file's sink
 pub packs_read : (words : List (List ℕ)) (t : TicketFields) (len : ℕ) (told : Status) (status : ℕ) (bytes : List ℕ) (source : Change SourceTold) (file report : Change SinkTold)
-    → NamesTicketFor Pack words t → len ≡ t.length → IsReading len source (Ok tt) → length (bytes_read source) ≡ len → bytes ≡ bytes_read source
+    → NamesTicket words t → len ≡ t.length → IsReading len source (Ok tt) → length (bytes_read source) ≡ len → bytes ≡ bytes_read source
     → (told ≡ Done) ⊎ (told ≡ OutputFault) → (CanCount file.old.faults → (told ≡ OutputFault) ↔ SinkFailed file) → WasGiven (packed t bytes) file
     → WasGiven (concluded_text (code_of told) (frames_line t bytes)) report → IsStatusOf (code_of told) status → (CanCount report.old.faults → code_of told ≡ 0 → (status ≡ 5) ↔ SinkFailed report)
     → Packs words source file report status

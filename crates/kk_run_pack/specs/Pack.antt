@@ -1,50 +1,37 @@
 -- `pack`: a file comes in, and its capture goes out.
-use Rattle.std.specs.Prelude.{◌≡◌, ◌↔◌, ◌⊎◌, ℕ, List, ◌++◌, length, codes, Some, IfSome}
+use Rattle.std.specs.Prelude.{◌≡◌, ◌↔◌, ◌⊎◌, ℕ, List, [], ◌∷◌, ◌++◌, length, codes, Some, None, IfSome, Ok}
 use Rattle.std.specs.Fmt.{decimal}
 use Rattle.kk_outside.specs.Causes.{CanCount}
 use Rattle.kk_outside.specs.Change.{Change}
 use Rattle.kk_outside.specs.Source.{SourceTold, SourceFailed, bytes_read}
 use Rattle.kk_outside.specs.Sink.{SinkTold, SinkFailed, WasGiven}
 use Rattle.kk_code.specs.Ticket.{TicketFields}
-use Rattle.kk_code.specs.declared.fault.TicketFault.{TicketFault}
 use Rattle.kk_sender.specs.LengthRule.{wrong_length, ReadsToLength, FailsWithinLength, LeavesAfterLength}
 use Rattle.kk_sender.specs.SentFrames.{capture_frames, packed}
-use Rattle.kk_words.specs.declared.command.Command.TheVariants.{Pack}
+use Rattle.kk_sender.specs.declared.fault.FileFault.{FileFault}
+use Rattle.kk_sender.specs.declared.fault.FileFault.TheVariants as file_fault
 use Rattle.kk_report.specs.declared.refusal.Refusal.{Refusal}
-use Rattle.kk_report.specs.declared.refusal.Refusal.TheVariants.{Words, Ticket, Seed, Range, Listen, Input, Length, Outlet, Memory}
+use Rattle.kk_report.specs.declared.refusal.Refusal.TheVariants.{Input, Length}
 use Rattle.kk_report.specs.Command.{RanThrough}
 use Rattle.kk_report.specs.Refusal.{IsRefused}
 use Rattle.kk_report.specs.Report.{IsConcluded}
-use Rattle.kk_order.specs.TicketWord.{NamesTicketFor, NamesNoTicketFor}
-use Rattle.kk_order.specs.Words.{AreNotOfForm}
-use Rattle.kk_sender.specs.declared.fault.FileFault.{FileFault}
-use Rattle.kk_sender.specs.declared.fault.FileFault.TheVariants as file_fault
+use Rattle.kk_forms.specs.Form.{Word}
+use Rattle.kk_order.specs.Order.{Order, OrderForm, order_of}
+use Rattle.kk_order.specs.Refuses.{Refuses}
+use Rattle.kk_order.specs.declared.order_form.TicketPlace.TheVariants.{First}
 
--- why these words are refused before any call on the source
-abbrev pub IsRefusedFor : List (List ℕ) → Refusal → Type 0
-IsRefusedFor words Words = AreNotOfForm words Pack
-IsRefusedFor words (Ticket fault) = NamesNoTicketFor Pack words fault
-IsRefusedFor words (Range name) = ⊥
-IsRefusedFor words Input = ⊥
-IsRefusedFor words Seed = ⊥
-IsRefusedFor words Outlet = ⊥
-IsRefusedFor words Listen = ⊥
-IsRefusedFor words (Length got more) = ⊥
-IsRefusedFor words Memory = Unit {0}
+-- ---- the words
 
--- why a run is refused, before or after its source was read
-abbrev pub IsCauseOf : List (List ℕ) → Change SourceTold → Refusal → Type 0
-IsCauseOf words source Words = AreNotOfForm words Pack
-IsCauseOf words source (Ticket fault) = NamesNoTicketFor Pack words fault
-IsCauseOf words source (Range name) = ⊥
-IsCauseOf words source Input = (t : TicketFields) × NamesTicketFor Pack words t × FailsWithinLength t.length source
-IsCauseOf words source Seed = ⊥
-IsCauseOf words source Outlet = ⊥
-IsCauseOf words source Listen = ⊥
-IsCauseOf words source (Length got more) =
-    (t : TicketFields) × NamesTicketFor Pack words t × ReadsToLength t.length source
-    × (wrong_length t.length (length (bytes_read source)) ≡ Some (got, more))
-IsCauseOf words source Memory = Unit {0}
+-- the form of an order to pack: the ticket
+abbrev pub pack_form : OrderForm
+pack_form = record {
+  words = record { name = codes "pack"; arguments = Word (codes "TICKET") ∷ [] };
+  ticket = First;
+  bounds = [];
+  listeners = None;
+}
+
+-- ---- the report and the status
 
 -- how many frames the capture has
 abbrev pub frames_line : TicketFields → List ℕ → List ℕ
@@ -61,24 +48,37 @@ abbrev pub refusal_of : FileFault → Refusal
 refusal_of file_fault.Read = Input
 refusal_of (file_fault.Length got more) = Length got more
 
+-- what is wrong with the source of a file of so many bytes
+abbrev pub IsFaultOf : ℕ → Change SourceTold → FileFault → Type 0
+IsFaultOf len source file_fault.Read = FailsWithinLength len source
+IsFaultOf len source (file_fault.Length got more) =
+    ReadsToLength len source × (wrong_length len (length (bytes_read source)) ≡ Some (got, more))
+
+-- The words have an order, under whose ticket this is wrong with the source. The status and the report tell it.
+pub record RefusesSource (words : List (List ℕ)) (source : Change SourceTold) (status : ℕ) (report : Change SinkTold) : Type 0 where
+  pub order : Order
+  pub ordered : order_of pack_form words ≡ Ok order
+  pub fault : FileFault
+  pub wrong : IsFaultOf order.ticket.length source fault
+  pub refused : IsRefused (refusal_of fault) status report
+
 -- ---- the promise
 
 -- What a run of `pack` makes of its source and its two sinks, and which status it has.
 pub record Packs (words : List (List ℕ)) (source : Change SourceTold) (file report : Change SinkTold) (status : ℕ) : Type 0 where
   -- Which status comes: 8 is want of memory, and 0 comes where no other status does.
-  pub words_refused : (status ≡ 8 → ⊥) → ((status ≡ 1) ↔ AreNotOfForm words Pack)
-  pub ticket_refused : (status ≡ 8 → ⊥) → ((status ≡ 2) ↔ ((fault : TicketFault) × NamesNoTicketFor Pack words fault))
+  pub refusals : Refuses (order_of pack_form words) status report
   pub input_fault : CanCount source.old.faults → ((status ≡ 4) ↔ SourceFailed source)
-  pub wrong_length : (t : TicketFields) → NamesTicketFor Pack words t → (status ≡ 8 → ⊥) → (status ≡ 4 → ⊥) → ((status ≡ 9) ↔ (length (bytes_read source) ≡ t.length → ⊥))
+  pub wrong_length : (order : Order) → order_of pack_form words ≡ Ok order → (status ≡ 8 → ⊥) → (status ≡ 4 → ⊥) → ((status ≡ 9) ↔ (length (bytes_read source) ≡ order.ticket.length → ⊥))
   pub output_fault : CanCount file.old.faults → CanCount report.old.faults → RanThrough status → ((status ≡ 5) ↔ (SinkFailed file ⊎ SinkFailed report))
   pub no_other_status : IsPackStatus status
   -- What was read: the file and the end after it, or one byte more, unless a read failed before.
-  pub read_to_length : (t : TicketFields) → NamesTicketFor Pack words t → (status ≡ 8 → ⊥) → (status ≡ 4 → ⊥) → ReadsToLength t.length source
-  pub failed_within_length : (t : TicketFields) → NamesTicketFor Pack words t → status ≡ 4 → FailsWithinLength t.length source
+  pub read_to_length : (order : Order) → order_of pack_form words ≡ Ok order → (status ≡ 8 → ⊥) → (status ≡ 4 → ⊥) → ReadsToLength order.ticket.length source
+  pub failed_within_length : (order : Order) → order_of pack_form words ≡ Ok order → status ≡ 4 → FailsWithinLength order.ticket.length source
   -- The same where the source tells the bytes that it has left.
-  pub remainder : (t : TicketFields) → NamesTicketFor Pack words t → (status ≡ 8 → ⊥) → (status ≡ 4 → ⊥) → IfSome source.old.left (λ bytes. LeavesAfterLength t.length bytes source)
+  pub remainder : (order : Order) → order_of pack_form words ≡ Ok order → (status ≡ 8 → ⊥) → (status ≡ 4 → ⊥) → IfSome source.old.left (λ bytes. LeavesAfterLength order.ticket.length bytes source)
   -- What the file's sink holds: the capture of the bytes that were read.
-  pub written : (t : TicketFields) → NamesTicketFor Pack words t → RanThrough status → WasGiven (packed t (bytes_read source)) file
-  -- What the report's sink holds.
-  pub refused : (RanThrough status → ⊥) → (cause : Refusal) × IsCauseOf words source cause × IsRefused cause status report
-  pub reported : (t : TicketFields) → NamesTicketFor Pack words t → RanThrough status → IsConcluded (frames_line t (bytes_read source)) status file report
+  pub written : (order : Order) → order_of pack_form words ≡ Ok order → RanThrough status → WasGiven (packed order.ticket (bytes_read source)) file
+  -- What the report's sink holds, where the words were not refused.
+  pub source_refused : (status ≡ 4) ⊎ (status ≡ 9) → RefusesSource words source status report
+  pub reported : (order : Order) → order_of pack_form words ≡ Ok order → RanThrough status → IsConcluded (frames_line order.ticket (bytes_read source)) status file report

@@ -6,4 +6,4 @@ mod packing;
 #[cfg(test)]
 mod tests;
 
-pub use pack::run_pack;
+pub use pack::{PACK, run_pack};

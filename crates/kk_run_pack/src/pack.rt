@@ -1,24 +1,33 @@
 //! `pack`: a file comes in, and its capture goes out.
-ghost use Rattle.std.specs.Prelude.{◌≡◌, ◌⊎◌, ◌↔◌, ◌+◌, ◌*◌, ◌<◌, ◌++◌, length, codes, decimal, IfOk, IfErr};
+ghost use Rattle.std.specs.Prelude.{◌≡◌, ◌⊎◌, ◌↔◌, ◌+◌, ◌*◌, ◌<◌, ◌++◌, length, codes, decimal};
 ghost use Rattle.arrayvec.specs.ArrayString.{array_string_len};
 ghost use Rattle.kk_outside.specs.Causes.{CanCount};
 ghost use Rattle.kk_outside.specs.Change.{change};
 ghost use Rattle.kk_outside.specs.Sink.{SinkFailed, WasGiven};
 ghost use Rattle.kk_code.specs.Ticket.{generations};
 ghost use Rattle.kk_sender.specs.SentFrames.{packed};
-ghost use Rattle.kk_words.specs.declared.command.Command.TheVariants as Command;
 ghost use Rattle.kk_report.specs.Command.{texts, IsRefusalOfWords, RanThrough};
-ghost use Rattle.kk_order.specs.TicketWord.{NamesTicketFor};
-ghost use Rattle.kk_run_pack.specs.Pack.{IsRefusedFor, Packs, refusal_of};
+ghost use Rattle.kk_run_pack.specs.Pack.{Packs, refusal_of};
 
 use crate::packing::write_capture;
 use kk_code::{Encoder, Ticket};
-use kk_order::asked_of;
+use kk_forms::{Argument, Form};
+use kk_order::{OrderFault, OrderForm, TicketPlace, refuse_words};
 use kk_outside::{Sink, Source};
 use kk_report::{Line, Refusal, Status, conclude, numbered, refuse};
 use kk_sender::{FileFault, read_file, room_for_file};
-use kk_words::Command;
 use std::alloc::Global;
+
+/// The words of `pack`: the ticket.
+pub const PACK: OrderForm = OrderForm {
+    words: Form {
+        name: "pack",
+        arguments: &[Argument::Word("TICKET")],
+    },
+    ticket: TicketPlace::First,
+    bounds: &[],
+    listeners: None,
+};
 
 /// Packs a file: reads it by the ticket's length, and writes the rows of all its codewords as frames, and END.
 ///
@@ -38,34 +47,23 @@ pub fn run_pack<S: Source, K: Sink, P: Sink>(
     ensures unread { IsRefusalOfWords result → source.new ≡ source.old }
     ensures unwritten { (RanThrough result → ⊥) → file.new ≡ file.old }
 {
-    let ticket = match ticket_named(alloc, words) {
-        Ok(ticket) => ticket,
-        Err(refusal) => return refuse(refusal, report),
+    let order = match PACK.read(alloc, words) {
+        Ok(order) => order,
+        Err(fault) => return refuse_words(fault, report),
     };
-    let Ok(mut room) = room_for_file(alloc, &ticket) else {
-        return refuse(Refusal::Memory, report);
+    let ticket = order.ticket();
+    let Ok(mut room) = room_for_file(alloc, ticket) else {
+        return refuse_words(OrderFault::Memory, report);
     };
     let Ok(encoder) = Encoder::new(alloc, &ticket.code()) else {
-        return refuse(Refusal::Memory, report);
+        return refuse_words(OrderFault::Memory, report);
     };
     if let Err(fault) = read_file(source, &mut room) {
         return refuse(refusal_of(fault), report);
     }
     let bytes = &room[..ticket.length() as usize];
-    let status = pack(&ticket, &encoder, bytes, file);
-    conclude(status, frames_line(&ticket).as_str(), report)
-}
-
-/// The ticket that the words name.
-fn ticket_named(alloc: Global, words: &[String]) -> Result<Ticket, Refusal>
-    ensures named { IfOk result (NamesTicketFor Command.Pack (texts words.now)) }
-    ensures refused { IfErr result (IsRefusedFor (texts words.now)) }
-{
-    let asked = asked_of(alloc, words, Command::Pack)?;
-    match Ticket::read(asked.text(0)) {
-        Ok(ticket) => Ok(ticket),
-        Err(fault) => Err(Refusal::Ticket(fault)),
-    }
+    let status = pack(ticket, &encoder, bytes, file);
+    conclude(status, frames_line(ticket).as_str(), report)
 }
 
 /// Writes the capture of a file that is in memory.

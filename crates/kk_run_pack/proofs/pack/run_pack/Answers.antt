@@ -5,10 +5,10 @@ use Rattle.kk_outside.specs.Source.{bytes_read}
 use Rattle.kk_outside.specs.Sink.{WasGiven}
 use Rattle.kk_sender.proofs.Lengths.{the_file}
 use Rattle.kk_report.specs.Command.{texts}
-use Rattle.kk_report.specs.declared.refusal.Refusal.TheVariants.{Memory}
 use Rattle.kk_report.specs.Refusal.{status_of, refusal_text}
 use Rattle.kk_report.specs.Report.{concluded_text}
 use Rattle.kk_report.specs.Status.{code_of}
+use Rattle.kk_order.specs.Order.{cause_of}
 use Rattle.kk_run_pack.specs.Pack.{frames_line}
 use Rattle.kk_run_pack.proofs.Capturing.{length-capture_frames}
 use Rattle.kk_run_pack.proofs.Packs.{packs_refused, packs_unread, packs_read, was_read}
@@ -16,36 +16,26 @@ use Rattle.kk_run_pack.proofs.pack.run_pack.Goals as goal
 
 pub returns-in-Err-clause-packs : goal.returns-in-Err-clause-packs
 returns-in-Err-clause-packs g c =
-    packs_refused (texts c.args.words.now) c.in-Err.refusal c.refuse.result (g.S.Source.told c.args.source.now) (g.K.Sink.told c.args.file.now) (change (g.P.Sink.told c.args.report.now) (g.P.Sink.told c.refuse.new.report))
-    c.in-Err.ensures.refused c.refuse.ensures.status c.refuse.ensures.given
-
-pub returns-in_default-clause-packs : goal.returns-in_default-clause-packs
-returns-in_default-clause-packs g c =
-    packs_refused (texts c.args.words.now) Memory c.refuse-in_default.result (g.S.Source.told c.args.source.now) (g.K.Sink.told c.args.file.now) (change (g.P.Sink.told c.args.report.now) (g.P.Sink.told c.refuse-in_default.new.report))
-    tt c.refuse-in_default.ensures.status c.refuse-in_default.ensures.given
-
-pub returns-in_default-new-clause-packs : goal.returns-in_default-new-clause-packs
-returns-in_default-new-clause-packs g c =
-    packs_refused (texts c.args.words.now) Memory c.refuse-in_default-new.result (g.S.Source.told c.args.source.now) (g.K.Sink.told c.args.file.now) (change (g.P.Sink.told c.args.report.now) (g.P.Sink.told c.refuse-in_default-new.new.report))
-    tt c.refuse-in_default-new.ensures.status c.refuse-in_default-new.ensures.given
+    packs_refused (texts c.args.words.now) (cause_of c.in-Err.fault) c.refuse_words.result (g.S.Source.told c.args.source.now) (g.K.Sink.told c.args.file.now) (change (g.P.Sink.told c.args.report.now) (g.P.Sink.told c.refuse_words.new.report))
+    c.in-Err.ensures.refused c.refuse_words.ensures.status c.refuse_words.ensures.given
 
 pub returns-in-Err-read_file-clause-packs : goal.returns-in-Err-read_file-clause-packs
 returns-in-Err-read_file-clause-packs g c =
     let source = change (g.S.Source.told c.args.source.now) (g.S.Source.told c.read_file.new.source) in
-    let report = change (g.P.Sink.told c.args.report.now) (g.P.Sink.told c.refuse-in-Err-read_file.new.report) in
+    let report = change (g.P.Sink.told c.args.report.now) (g.P.Sink.told c.refuse.new.report) in
     let h = c.in-Err-read_file.ensures in
-    packs_unread (texts c.args.words.now) c.in-Ok.ticket (length c.deref_mut.result.now - 1) c.in-Err-read_file.fault c.refuse-in-Err-read_file.result source (g.K.Sink.told c.args.file.now) report
-    c.in-Ok.ensures.named (omega (arith, c.deref_mut.ensures.len, c.in-Ok-room_for_file.ensures))
+    packs_unread (texts c.args.words.now) c.ticket-ticket.result.now (length c.deref_mut.result.now - 1) c.in-Err-read_file.fault c.refuse.result source (g.K.Sink.told c.args.file.now) report
+    (record { order = c.in-Ok.order; ordered = c.in-Ok.ensures.ordered; ticket = c.ticket-ticket.ensures }) (omega (arith, c.deref_mut.ensures.len, c.in-Ok-room_for_file.ensures))
     (record { wrong = h.wrong_length; failed = h.failed; read = h.read; before = h.failed_before; left = h.remainder })
-    (c.refuse-in-Err-read_file.ensures.status ∙ ap status_of c.refusal_of.ensures)
-    (subst (λ r. WasGiven (refusal_text r) report) c.refusal_of.ensures c.refuse-in-Err-read_file.ensures.given)
+    (c.refuse.ensures.status ∙ ap status_of c.refusal_of.ensures)
+    (subst (λ r. WasGiven (refusal_text r) report) c.refusal_of.ensures c.refuse.ensures.given)
 
 pub returns-clause-packs : goal.returns-clause-packs
 returns-clause-packs g c =
     let source = change (g.S.Source.told c.args.source.now) (g.S.Source.told c.read_file.new.source) in
     let file = change (g.K.Sink.told c.args.file.now) (g.K.Sink.told c.pack-status.new.file) in
     let report = change (g.P.Sink.told c.args.report.now) (g.P.Sink.told c.conclude.new.report) in
-    let t = c.in-Ok.ticket in
+    let t = c.ticket-ticket.result.now in
     let len = length c.deref_mut.result.now - 1 in
     let told = c.pack-status.result in
     let h = c.in_default-read_file.ensures in
@@ -57,7 +47,7 @@ returns-clause-packs g c =
     c.as_str.ensures.value ∙ c.frames_line.ensures.text
     ∙ ap (λ (n : ℕ). codes "frames " ++ decimal n ++ codes "\n") (sym (length-capture_frames t (take c.length.result c.deref.result.now))) in
     packs_read (texts c.args.words.now) t len told c.conclude.result (take c.length.result c.deref.result.now) source file report
-    c.in-Ok.ensures.named same
+    (record { order = c.in-Ok.order; ordered = c.in-Ok.ensures.ordered; ticket = c.ticket-ticket.ensures }) same
     (record { wrong = h.wrong_length; failed = h.failed; read = h.read; before = h.failed_before; left = h.remainder })
     ((h.whole was_read).0 refl) bytes c.pack-status.ensures.status c.pack-status.ensures.five c.pack-status.ensures.given
     (subst (λ l. WasGiven (concluded_text (code_of told) l) report) text c.conclude.ensures.given) c.conclude.ensures.same_or_five c.conclude.ensures.five
