@@ -5,4 +5,4 @@ mod plan;
 #[cfg(test)]
 mod tests;
 
-pub use plan::run_plan;
+pub use plan::{PLAN, run_plan};
