@@ -5,4 +5,4 @@ mod send;
 #[cfg(test)]
 mod tests;
 
-pub use send::run_send;
+pub use send::{SEND, run_send};

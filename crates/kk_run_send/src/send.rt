@@ -1,19 +1,53 @@
 //! `send`: a file comes in, and goes out in datagrams.
-ghost use Rattle.std.specs.Prelude.{◌≡◌, ◌++◌, Some, codes, decimal, IfOk, IfErr};
+ghost use Rattle.std.specs.Prelude.{◌≡◌, ◌++◌, codes, decimal};
 ghost use Rattle.kk_outside.specs.Change.{change};
 ghost use Rattle.kk_report.specs.Command.{texts, IsRefusalOfWords, RanThrough};
-ghost use Rattle.kk_run_send.specs.Send.{OrdersSending, IsRefusedFor, Sends, refusal_of};
+ghost use Rattle.kk_run_send.specs.Send.{Sends, refusal_of};
 
-use kk_code::Ticket;
+use kk_forms::{Argument, Form};
 use kk_frame::MAX_DATAGRAM_FRAMES;
-use kk_order::{asked_of, seed_in};
+use kk_order::{Bound, Limit, OrderForm, TicketPlace, refuse_words};
 use kk_outside::{Outlet, Sink, Source};
 use kk_report::{LongLine, Refusal, Status, conclude, push_count, refuse};
 use kk_sender::{MAX_EXTRA, SendFault, Sent, send_all};
-use kk_words::{Command, Name};
 use rand_chacha::ChaCha20Rng;
 use rand_core::SeedableRng;
 use std::alloc::Global;
+
+/// The words of `send`: the ticket, the target, the seed, how many combinations of each generation are sent, and how many
+/// frames a datagram has.
+pub const SEND: OrderForm = OrderForm {
+    words: Form {
+        name: "send",
+        arguments: &[
+            Argument::Word("TICKET"),
+            Argument::Word("TARGET"),
+            Argument::TextOption("seed"),
+            Argument::NumberOption {
+                name: "extra",
+                default: Some(0),
+            },
+            Argument::NumberOption {
+                name: "pack",
+                default: Some(32),
+            },
+        ],
+    },
+    ticket: TicketPlace::First,
+    bounds: &[
+        Bound {
+            name: "extra",
+            least: 0,
+            most: Limit::Exactly(MAX_EXTRA as u64),
+        },
+        Bound {
+            name: "pack",
+            least: 1,
+            most: Limit::Exactly(MAX_DATAGRAM_FRAMES as u64),
+        },
+    ],
+    listeners: None,
+};
 
 /// Sends a file: reads it by the ticket's length, and sends the rows of all its codewords, with combinations of them, as
 /// frames in datagrams, and END.
@@ -35,64 +69,19 @@ pub fn run_send<S: Source, P: Sink, O: Outlet>(
     ensures unread { IsRefusalOfWords result → source.new ≡ source.old }
     ensures unsent { (RanThrough result → ⊥) → (result ≡ 7 → ⊥) → outlet.new ≡ outlet.old }
 {
-    let order = match order_in(alloc, words) {
+    let order = match SEND.read(alloc, words) {
         Ok(order) => order,
-        Err(refusal) => return refuse(refusal, report),
+        Err(fault) => return refuse_words(fault, report),
     };
-    let mut rng = ChaCha20Rng::from_seed(order.seed);
-    let sent = send_all(
-        alloc,
-        &order.ticket,
-        source,
-        &mut rng,
-        order.extra,
-        order.pack,
-        outlet,
-    );
+    let seed = order.seed().unwrap();
+    let extra = order.number("extra").unwrap() as u32;
+    let pack = order.number("pack").unwrap() as u32;
+    let mut rng = ChaCha20Rng::from_seed(seed);
+    let sent = send_all(alloc, order.ticket(), source, &mut rng, extra, pack, outlet);
     match sent {
         Ok(sent) => conclude(Status::Done, sent_line(&sent).as_str(), report),
         Err(fault) => refuse(refusal_of(fault), report),
     }
-}
-
-/// What the words ask to send by.
-#[derive(Clone, Copy)]
-struct Order {
-    ticket: Ticket,
-    seed: [u8; 32],
-    /// How many combinations of each generation.
-    extra: u32,
-    /// How many frames in a datagram.
-    pack: u32,
-}
-
-/// The order in the words: the ticket is looked at first, and then the ranges of the seed, of `--extra` and of `--pack`.
-fn order_in(alloc: Global, words: &[String]) -> Result<Order, Refusal>
-    ensures ordered { IfOk result (λ order. OrdersSending (texts words.now) (record { ticket = order.ticket; seed = Some order.seed; extra = order.extra; pack = order.pack })) }
-    ensures refused { IfErr result (IsRefusedFor (texts words.now)) }
-{
-    let asked = asked_of(alloc, words, Command::Send)?;
-    let extra = asked.number(Name::Extra).unwrap();
-    let pack = asked.number(Name::Pack).unwrap();
-    let ticket = match Ticket::read(asked.text(0)) {
-        Ok(ticket) => ticket,
-        Err(fault) => return Err(Refusal::Ticket(fault)),
-    };
-    let Some(seed) = seed_in(asked.seed()) else {
-        return Err(Refusal::Seed);
-    };
-    if extra > u64::from(MAX_EXTRA) {
-        return Err(Refusal::Range(Name::Extra));
-    }
-    if pack < 1 || pack > MAX_DATAGRAM_FRAMES as u64 {
-        return Err(Refusal::Range(Name::Pack));
-    }
-    Ok(Order {
-        ticket,
-        seed,
-        extra: extra as u32,
-        pack: pack as u32,
-    })
 }
 
 /// The line that tells how much was sent.
