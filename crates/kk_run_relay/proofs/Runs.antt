@@ -21,19 +21,19 @@ use Rattle.kk_report.specs.Command.{RanThrough}
 use Rattle.kk_report.specs.Refusal.{refusal_text}
 use Rattle.kk_report.specs.Report.{gate_line, concluded_text}
 use Rattle.kk_order.specs.Seed.{stream_with}
-use Rattle.kk_run_relay.specs.Relay.{Order, ordered_list, relay_lines, frames_taken, RelaysBy}
+use Rattle.kk_run_relay.specs.Relay.{Relaying, ordered_list, relay_lines, frames_taken, RelaysBy}
 use Rattle.kk_report.proofs.Statuses.{not_through}
 
 rose_below : (old new : ℕ) → CanCount old → Rose old new → old < new
 rose_below old new can rose = omega (arith, can, rose)
 
 -- the list by the words of the order's seed
-pub list_by : (order : Order) (words : Stream) (events : List Event) → words ≡ stream_with order.seed → relay_list order.ticket order.limits order.rate (word_at words) events ≡ ordered_list order events
+pub list_by : (order : Relaying) (words : Stream) (events : List Event) → words ≡ stream_with order.seed → relay_list order.ticket order.limits order.rate (word_at words) events ≡ ordered_list order events
 unfolding ordered_list
 list_by order words events are = ap (λ (s : Stream). relay_list order.ticket order.limits order.rate (word_at s) events) are
 
 -- the lines by the counts
-pub lines_by : (order : Order) (words : Stream) (events : List Event) (gate : GateCount) (innovative sent : ℕ) → words ≡ stream_with order.seed → gate ≡ counts FRAME_BYTES order.ticket order.limits events → innovative ≡ sum_by rank (relay_after order.ticket (frames_taken order events)) → sent ≡ length (relayed order.rate (word_at words) (frames_taken order events))
+pub lines_by : (order : Relaying) (words : Stream) (events : List Event) (gate : GateCount) (innovative sent : ℕ) → words ≡ stream_with order.seed → gate ≡ counts FRAME_BYTES order.ticket order.limits events → innovative ≡ sum_by rank (relay_after order.ticket (frames_taken order events)) → sent ≡ length (relayed order.rate (word_at words) (frames_taken order events))
     → gate_line 0 gate ++ codes "relayed frames " ++ decimal gate.frames ++ codes " innovative " ++ decimal innovative ++ codes " sent " ++ decimal sent ++ codes "\n" ≡ relay_lines order events
 unfolding relay_lines
 lines_by order words events gate innovative sent are is_gate is_innovative is_sent =
@@ -42,7 +42,7 @@ lines_by order words events gate innovative sent are is_gate is_innovative is_se
     ∙ ap (λ (n : ℕ). gate_line 0 (counts FRAME_BYTES order.ticket order.limits events) ++ codes "relayed frames " ++ decimal (counts FRAME_BYTES order.ticket order.limits events).frames ++ codes " innovative " ++ decimal (sum_by rank (relay_after order.ticket (frames_taken order events))) ++ codes " sent " ++ decimal n ++ codes "\n") (is_sent ∙ ap (λ (s : Stream). length (relayed order.rate (word_at s) (frames_taken order events))) are)
 
 -- all was sent
-pub relays_done : (order : Order) (gate : Change GateTold) (report : Change SinkTold) (outlet : Change OutletTold) (status : ℕ)
+pub relays_done : (order : Relaying) (gate : Change GateTold) (report : Change SinkTold) (outlet : Change OutletTold) (status : ℕ)
     → gate.new.faults ≡ gate.old.faults → outlet.new.faults ≡ outlet.old.faults
     → AsksUpToStop order.ticket order.limits gate → StopsThere order.ticket order.limits gate
     → outlet.new.sends ≡ append_datagrams outlet.old.sends (ordered_list order (events_told gate))
@@ -65,7 +65,7 @@ relays_done order gate report outlet status gate_kept outlet_kept asked stop sen
 }
 
 -- the gate failed
-pub relays_gate_failed : (order : Order) (gate : Change GateTold) (report : Change SinkTold) (outlet : Change OutletTold) (status : ℕ)
+pub relays_gate_failed : (order : Relaying) (gate : Change GateTold) (report : Change SinkTold) (outlet : Change OutletTold) (status : ℕ)
     → Rose gate.old.faults gate.new.faults → outlet.new.faults ≡ outlet.old.faults
     → AsksUpToStop order.ticket order.limits gate → StopsThere order.ticket order.limits gate
     → outlet.new.sends ≡ append_datagrams outlet.old.sends (ordered_list order (events_told gate))
@@ -87,7 +87,7 @@ relays_gate_failed order gate report outlet status rose outlet_kept asked stop s
 }
 
 -- the outlet failed
-pub relays_outlet_failed : (order : Order) (gate : Change GateTold) (report : Change SinkTold) (outlet : Change OutletTold) (status : ℕ)
+pub relays_outlet_failed : (order : Relaying) (gate : Change GateTold) (report : Change SinkTold) (outlet : Change OutletTold) (status : ℕ)
     → gate.new.faults ≡ gate.old.faults → Rose outlet.old.faults outlet.new.faults
     → AsksUpToStop order.ticket order.limits gate
     → IsCutShort outlet (ordered_list order (events_told gate)) → IfSome gate.old.left (λ events. IsCutShort outlet (ordered_list order events))
@@ -109,6 +109,6 @@ relays_outlet_failed order gate report outlet status gate_kept rose asked cut cu
 }
 
 -- what holds of a list holds of the same one, in each case
-pub cut_all_by : (order : Order) (words : Stream) (outlet : Change OutletTold) (left : Option (List Event)) → words ≡ stream_with order.seed → IfSome left (λ events. IsCutShort outlet (relay_list order.ticket order.limits order.rate (word_at words) events)) → IfSome left (λ events. IsCutShort outlet (ordered_list order events))
+pub cut_all_by : (order : Relaying) (words : Stream) (outlet : Change OutletTold) (left : Option (List Event)) → words ≡ stream_with order.seed → IfSome left (λ events. IsCutShort outlet (relay_list order.ticket order.limits order.rate (word_at words) events)) → IfSome left (λ events. IsCutShort outlet (ordered_list order events))
 cut_all_by order words outlet None are cut = tt
 cut_all_by order words outlet (Some events) are cut = subst (IsCutShort outlet) (list_by order words events are) cut

@@ -1,5 +1,5 @@
 -- `relay`: the data frames of a gate come in, and combinations of their rows go out.
-use Rattle.std.specs.Prelude.{◌≡◌, ◌⊎◌, ◌↔◌, ℕ, ◌<◌, nat_lt, ◌||◌, if◌then◌else◌, List, ◌++◌, length, codes, slice_get, sum_by, Option, Some, None, IfSome}
+use Rattle.std.specs.Prelude.{◌≡◌, ◌⊎◌, ◌↔◌, ℕ, ◌<◌, ◌==◌, Bool, true, false, List, [], ◌∷◌, ◌++◌, length, codes, slice_get, sum_by, Option, Some, None, IfSome, Result, Ok, Err}
 use Rattle.std.specs.Fmt.{decimal}
 use Rattle.kk_outside.specs.Causes.{CanCount}
 use Rattle.kk_outside.specs.Change.{Change}
@@ -9,8 +9,6 @@ use Rattle.kk_outside.specs.Outlet.{OutletTold, OutletFailed, append_datagrams}
 use Rattle.kk_outside.specs.Sink.{SinkTold, SinkFailed, WasGiven}
 use Rattle.kk_outside.specs.declared.event.Event.{Event}
 use Rattle.kk_code.specs.Ticket.{TicketFields}
-use Rattle.kk_code.specs.TicketText.{IsTicketText}
-use Rattle.kk_code.specs.declared.fault.TicketFault.{TicketFault}
 use Rattle.kk_frame.specs.declared.frame.TheConstants.{FRAME_BYTES}
 use Rattle.kk_frame.specs.declared.limits.Limits.{Limits}
 use Rattle.kk_frame.specs.Events.{taken, counts}
@@ -18,88 +16,78 @@ use Rattle.kk_relay.specs.declared.relay.TheConstants.{MAX_RATE}
 use Rattle.kk_relay.specs.Progress.{AsksUpToStop, StopsThere, IsCutShort}
 use Rattle.kk_relay.specs.Relaying.{relayed, relay_list}
 use Rattle.kk_relay.specs.RelayState.{relay_after, rank}
-use Rattle.kk_words.specs.declared.command.Command.TheVariants.{Relay}
-use Rattle.kk_words.specs.declared.argument.Name.TheVariants.{Rate, Idle, Most}
-use Rattle.kk_words.specs.Request.{Request, number_of}
 use Rattle.kk_report.specs.declared.refusal.Refusal.{Refusal}
-use Rattle.kk_report.specs.declared.refusal.Refusal.TheVariants.{Words, Ticket, Seed, Range, Listen, Input, Length, Outlet, Memory}
+use Rattle.kk_report.specs.declared.refusal.Refusal.TheVariants.{Input, Outlet}
 use Rattle.kk_order.specs.declared.words.TheConstants.{DATAGRAMS_LIMIT, QUIETS_LIMIT}
-use Rattle.kk_report.specs.Command.{IsRefusalOfWords, RanThrough}
+use Rattle.kk_report.specs.Command.{RanThrough}
 use Rattle.kk_report.specs.Refusal.{IsRefused}
 use Rattle.kk_report.specs.Report.{gate_line, concluded_text}
-use Rattle.kk_order.specs.Seed.{seed_of, stream_with}
-use Rattle.kk_order.specs.TicketWord.{NamesNoTicketFor}
-use Rattle.kk_order.specs.Words.{IsRequestFor, AreNotOfForm}
+use Rattle.kk_order.specs.Order.{Cause, Listen, Order, OrderForm, number_of, order_of}
+use Rattle.kk_order.specs.Refuses.{Refuses}
+use Rattle.kk_order.specs.Seed.{stream_with}
+use Rattle.kk_order.specs.declared.bound.Limit.TheVariants.{Exactly}
+use Rattle.kk_order.specs.declared.order_form.TicketPlace.TheVariants.{First}
+use Rattle.kk_forms.specs.Form.{NumberOption, TextOption, Word}
 use Rattle.kk_relay.specs.declared.relayed.RelayFault.{RelayFault}
 use Rattle.kk_relay.specs.declared.relayed.RelayFault.TheVariants as relay_fault
 
 -- ---- the words
 
--- what is asked for: a ticket, the seed, where it is one, how many combinations a data frame, and when the gate is given up
-pub record Order : Type 0 where
+-- The form of an order to relay: a ticket, the address to send to and the one to listen at, the seed, at most 16 combinations for
+-- each data frame, and when the gate is given up.
+abbrev pub relay_form : OrderForm
+relay_form = record {
+  words = record {
+    name = codes "relay";
+    arguments = Word (codes "TICKET") ∷ Word (codes "TARGET") ∷ Word (codes "LISTEN") ∷ TextOption (codes "seed")
+        ∷ NumberOption (codes "rate") (Some 1) ∷ NumberOption (codes "idle") (Some 300) ∷ NumberOption (codes "most") (Some 10000000) ∷ [];
+  };
+  ticket = First;
+  bounds = record { name = codes "rate"; least = 0; most = Exactly MAX_RATE }
+      ∷ record { name = codes "idle"; least = 1; most = Exactly QUIETS_LIMIT }
+      ∷ record { name = codes "most"; least = 1; most = Exactly DATAGRAMS_LIMIT } ∷ [];
+  listeners = None;
+}
+
+-- what a relay goes by: a ticket, the seed, how many combinations a data frame, and when the gate is given up
+pub record Relaying : Type 0 where
   pub ticket : TicketFields
   pub seed : Option (List ℕ)
   pub rate : ℕ
   pub limits : Limits
 
--- The words ask to relay by this order.
-pub record AsksToRelay (words : List (List ℕ)) (order : Order) : Type 0 where
-  pub request : Request
-  pub asked : IsRequestFor words Relay request
-  pub text : List ℕ
-  pub first : slice_get request.texts 0 ≡ Some text
-  pub ticket : IsTicketText text order.ticket
-  pub seed : seed_of request.seed ≡ order.seed
-  pub rate : number_of request.numbers Rate ≡ Some order.rate
-  pub idle : number_of request.numbers Idle ≡ Some order.limits.idle
-  pub most : number_of request.numbers Most ≡ Some order.limits.most
+-- what a relay goes by, by an order
+abbrev pub relaying_of : Order → Relaying
+relaying_of order = record {
+  ticket = order.ticket;
+  seed = order.seed;
+  rate = number_of order (codes "rate");
+  limits = record { idle = number_of order (codes "idle"); most = number_of order (codes "most") };
+}
 
--- the first range of an order that is broken: there is a seed, at most 16 combinations, and numbers of quiets and of
--- datagrams within theirs
-abbrev pub broken_range : Order → Option Refusal
-broken_range order = elim order.seed [
-  | None ↦ Some Seed
-  | Some seed ↦ if nat_lt MAX_RATE order.rate then Some (Range Rate)
-      else (if nat_lt order.limits.idle 1 || nat_lt QUIETS_LIMIT order.limits.idle then Some (Range Idle)
-      else (if nat_lt order.limits.most 1 || nat_lt DATAGRAMS_LIMIT order.limits.most then Some (Range Most) else None))
-]
+-- the answer of the words: an order is refused where no gate was handed in
+abbrev pub answer_by : Bool → Result Order Cause → Result Order Cause
+answer_by true (Ok order) = Err Listen
+answer_by true (Err cause) = Err cause
+answer_by false answer = answer
 
--- The words ask to relay by this order, whose ranges are kept.
-pub record OrdersRelaying (words : List (List ℕ)) (order : Order) : Type 0 where
-  pub asks : AsksToRelay words order
-  pub in_range : broken_range order ≡ None
-
--- The words ask to relay by an order of which this range is the first that is broken.
-pub record BreaksRange (words : List (List ℕ)) (cause : Refusal) : Type 0 where
-  pub order : Order
-  pub asks : AsksToRelay words order
-  pub broken : broken_range order ≡ Some cause
-
--- why these words are refused before any call on a gate
-abbrev pub IsRefusedFor : List (List ℕ) → Refusal → Type 0
-IsRefusedFor words Words = AreNotOfForm words Relay
-IsRefusedFor words (Ticket fault) = NamesNoTicketFor Relay words fault
-IsRefusedFor words Seed = BreaksRange words Seed
-IsRefusedFor words (Range name) = BreaksRange words (Range name)
-IsRefusedFor words Listen = ⊥
-IsRefusedFor words Input = ⊥
-IsRefusedFor words (Length got more) = ⊥
-IsRefusedFor words Outlet = ⊥
-IsRefusedFor words Memory = Unit {0}
+-- the answer of the words, where so many gates were handed in
+abbrev pub answer_of : List (List ℕ) → ℕ → Result Order Cause
+answer_of words gates = answer_by (gates == 0) (order_of relay_form words)
 
 -- ---- the datagrams
 
 -- what is sent by an order of a gate with these events
-unfoldable pub ordered_list : Order → List Event → List (List ℕ)
+unfoldable pub ordered_list : Relaying → List Event → List (List ℕ)
 ordered_list order events = relay_list order.ticket order.limits order.rate (word_at (stream_with order.seed)) events
 
 -- the data frames that are taken of the events
-abbrev pub frames_taken : Order → List Event → List (ℕ × ℕ)
+abbrev pub frames_taken : Relaying → List Event → List (ℕ × ℕ)
 frames_taken order events = taken FRAME_BYTES order.ticket order.limits events
 
 -- what is told of a gate with these events: its line, how many data frames were taken, the sum of the ranks, and how many
 -- data frames were sent
-unfoldable pub relay_lines : Order → List Event → List ℕ
+unfoldable pub relay_lines : Relaying → List Event → List ℕ
 relay_lines order events =
     gate_line 0 (counts FRAME_BYTES order.ticket order.limits events)
     ++ codes "relayed frames " ++ decimal (counts FRAME_BYTES order.ticket order.limits events).frames
@@ -117,7 +105,7 @@ refusal_of relay_fault.Outlet = Outlet
 
 -- What a run of `relay` over one gate by an order makes of it, of its report and of its outlet, and which status it has: 4
 -- where the gate failed, 7 where the outlet did, and else 0, or 5 where the report did.
-pub record RelaysBy (order : Order) (gate : Change GateTold) (report : Change SinkTold) (outlet : Change OutletTold) (status : ℕ) : Type 0 where
+pub record RelaysBy (order : Relaying) (gate : Change GateTold) (report : Change SinkTold) (outlet : Change OutletTold) (status : ℕ) : Type 0 where
   -- Which status comes.
   pub input_fault : CanCount gate.old.faults → ((status ≡ 4) ↔ GateFailed gate)
   pub outlet_fault : CanCount outlet.old.faults → ((status ≡ 7) ↔ OutletFailed outlet)
@@ -135,30 +123,15 @@ pub record RelaysBy (order : Order) (gate : Change GateTold) (report : Change Si
   pub outlet_refused : status ≡ 7 → IsRefused Outlet status report
   pub reported : RanThrough status → WasGiven (concluded_text 0 (relay_lines order (events_told gate))) report
 
--- why a run is refused before any call on a gate, where this many were handed in
-abbrev pub IsCauseOf : List (List ℕ) → ℕ → Refusal → Type 0
-IsCauseOf words gates Listen = (order : Order) × OrdersRelaying words order × (gates ≡ 0)
-IsCauseOf words gates Words = IsRefusedFor words Words
-IsCauseOf words gates (Ticket fault) = IsRefusedFor words (Ticket fault)
-IsCauseOf words gates Seed = IsRefusedFor words Seed
-IsCauseOf words gates (Range name) = IsRefusedFor words (Range name)
-IsCauseOf words gates Input = ⊥
-IsCauseOf words gates (Length got more) = ⊥
-IsCauseOf words gates Outlet = ⊥
-IsCauseOf words gates Memory = Unit {0}
-
 -- the first of the gates, before and after a run
 abbrev pub FirstIs : Change (List GateTold) → Change GateTold → Type 0
 FirstIs gates gate = (slice_get gates.old 0 ≡ Some gate.old) × (slice_get gates.new 0 ≡ Some gate.new)
 
 -- What a run of `relay` makes of its gates, its report and its outlet, and which status it has.
 pub record Relays (words : List (List ℕ)) (gates : Change (List GateTold)) (report : Change SinkTold) (outlet : Change OutletTold) (status : ℕ) : Type 0 where
-  -- Which status comes before any call on a gate: 8 is want of memory.
-  pub words_refused : (status ≡ 8 → ⊥) → ((status ≡ 1) ↔ AreNotOfForm words Relay)
-  pub ticket_refused : (status ≡ 8 → ⊥) → ((status ≡ 2) ↔ ((fault : TicketFault) × NamesNoTicketFor Relay words fault))
-  pub range_refused : (status ≡ 8 → ⊥) → ((status ≡ 11) ↔ (((cause : Refusal) × BreaksRange words cause) ⊎ ((order : Order) × OrdersRelaying words order × (length gates.old ≡ 0))))
-  pub refused : IsRefusalOfWords status → (cause : Refusal) × IsCauseOf words (length gates.old) cause × IsRefused cause status report
+  -- Which status comes before any call on a gate, and the report of a refusal.
+  pub refusals : Refuses (answer_of words (length gates.old)) status report
   -- What the run over the first gate comes to; it is still the first of as many.
-  pub runs : (order : Order) → OrdersRelaying words order → 0 < length gates.old → (status ≡ 8 → ⊥)
-      → (gate : Change GateTold) × FirstIs gates gate × RelaysBy order gate report outlet status
+  pub runs : (order : Order) → order_of relay_form words ≡ Ok order → 0 < length gates.old → (status ≡ 8 → ⊥)
+      → (gate : Change GateTold) × FirstIs gates gate × RelaysBy (relaying_of order) gate report outlet status
   pub same_gates : length gates.new ≡ length gates.old

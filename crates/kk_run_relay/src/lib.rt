@@ -5,4 +5,4 @@ mod relay;
 #[cfg(test)]
 mod tests;
 
-pub use relay::run_relay;
+pub use relay::{RELAY, run_relay};

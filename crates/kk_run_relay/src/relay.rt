@@ -1,22 +1,70 @@
 //! `relay`: the data frames of a gate come in, and combinations of their rows go out.
-ghost use Rattle.std.specs.Prelude.{◌≡◌, ◌+◌, ◌<◌, ◌≤◌, ◌++◌, [], None, Some, length, codes, decimal, drop, map, IfOk, IfErr};
+ghost use Rattle.std.specs.Prelude.{◌≡◌, ◌+◌, ◌<◌, ◌≤◌, ◌++◌, [], None, Some, length, codes, decimal, drop, map};
 ghost use Rattle.arrayvec.specs.ArrayString.{array_string_len};
 ghost use Rattle.kk_outside.specs.Change.{change};
 ghost use Rattle.kk_relay.specs.RelayState.{relay_after};
 ghost use Rattle.kk_report.specs.Command.{texts, IsRefusalOfWords};
 ghost use Rattle.kk_report.specs.Report.{gate_line};
-ghost use Rattle.kk_run_relay.specs.Relay.{broken_range, OrdersRelaying, IsRefusedFor, RelaysBy, Relays, refusal_of};
+ghost use Rattle.kk_relay.specs.declared.relay.TheConstants.{MAX_RATE};
+ghost use Rattle.kk_run_relay.specs.Relay.{RelaysBy, Relays, refusal_of};
 
 use kk_code::Ticket;
+use kk_forms::{Argument, Form};
 use kk_frame::Limits;
-use kk_order::{DATAGRAMS_LIMIT, QUIETS_LIMIT, asked_of, seed_in};
+use kk_order::{
+    Bound, DATAGRAMS_LIMIT, Limit, OrderFault, OrderForm, QUIETS_LIMIT, TicketPlace, refuse_words,
+};
 use kk_outside::{Gate, Outlet, Sink};
 use kk_relay::{MAX_RATE, Relay, RelayFault, Relayed};
 use kk_report::{Lines, LongLine, Refusal, Status, conclude, gate_line, push_count, refuse};
-use kk_words::{Command, Name};
 use rand_chacha::ChaCha20Rng;
 use rand_core::SeedableRng;
 use std::alloc::Global;
+
+/// The words of `relay`: the ticket, the address to send to and the one to listen at, the seed, how many combinations are sent
+/// for each data frame, and when the gate is given up.
+pub const RELAY: OrderForm = OrderForm {
+    words: Form {
+        name: "relay",
+        arguments: &[
+            Argument::Word("TICKET"),
+            Argument::Word("TARGET"),
+            Argument::Word("LISTEN"),
+            Argument::TextOption("seed"),
+            Argument::NumberOption {
+                name: "rate",
+                default: Some(1),
+            },
+            Argument::NumberOption {
+                name: "idle",
+                default: Some(300),
+            },
+            Argument::NumberOption {
+                name: "most",
+                default: Some(10_000_000),
+            },
+        ],
+    },
+    ticket: TicketPlace::First,
+    bounds: &[
+        Bound {
+            name: "rate",
+            least: 0,
+            most: Limit::Exactly(MAX_RATE as u64),
+        },
+        Bound {
+            name: "idle",
+            least: 1,
+            most: Limit::Exactly(QUIETS_LIMIT),
+        },
+        Bound {
+            name: "most",
+            least: 1,
+            most: Limit::Exactly(DATAGRAMS_LIMIT),
+        },
+    ],
+    listeners: None,
+};
 
 /// Relays what the first gate gives: takes its data frames up to its stop, sends combinations of the rows of their
 /// generations, and END.
@@ -39,22 +87,31 @@ pub fn run_relay<P: Sink, G: Gate + Send, O: Outlet>(
     ensures unsent { IsRefusalOfWords result → outlet.new ≡ outlet.old }
     ensures others { drop 1 gates.new.items ≡ drop 1 gates.old.items }
 {
-    let order = match order_in(alloc, words) {
+    let order = match RELAY.read(alloc, words) {
         Ok(order) => order,
-        Err(refusal) => return refuse(refusal, report),
+        Err(fault) => return refuse_words(fault, report),
     };
     if gates.is_empty() {
-        return refuse(Refusal::Listen, report);
+        return refuse_words(OrderFault::Listen, report);
     }
-    let Ok(relay) = Relay::new(alloc, &order.ticket) else {
-        return refuse(Refusal::Memory, report);
+    let Ok(relay) = Relay::new(alloc, order.ticket()) else {
+        return refuse_words(OrderFault::Memory, report);
     };
-    relay_by(&order, relay, &mut gates[0], report, outlet)
+    let relaying = Relaying {
+        ticket: *order.ticket(),
+        seed: order.seed().unwrap(),
+        rate: order.number("rate").unwrap() as u32,
+        limits: Limits {
+            idle: order.number("idle").unwrap() as u32,
+            most: order.number("most").unwrap() as u32,
+        },
+    };
+    relay_by(&relaying, relay, &mut gates[0], report, outlet)
 }
 
-/// What the words ask to relay by.
+/// What a relay goes by.
 #[derive(Clone, Copy)]
-struct Order {
+struct Relaying {
     ticket: Ticket,
     seed: [u8; 32],
     /// How many combinations for each data frame.
@@ -62,16 +119,18 @@ struct Order {
     limits: Limits,
 }
 
-/// Relays what a gate gives by an order, with a relay that holds no rows, and answers the status.
+/// Relays what a gate gives, with a relay that holds no rows, and answers the status.
 fn relay_by<P: Sink, G: Gate, O: Outlet>(
-    order: &Order,
+    order: &Relaying,
     mut relay: Relay,
     gate: &mut G,
     report: &mut P,
     outlet: &mut O,
 ) -> u8
     requires empty { relay ≡ relay_after order.now.ticket [] }
-    requires in_range { broken_range (record { ticket = order.now.ticket; seed = Some order.now.seed; rate = order.now.rate; limits = order.now.limits }) ≡ None }
+    requires rate { order.now.rate ≤ MAX_RATE }
+    requires idle { 1 ≤ order.now.limits.idle }
+    requires most { 1 ≤ order.now.limits.most }
     ensures { RelaysBy (record { ticket = order.now.ticket; seed = Some order.now.seed; rate = order.now.rate; limits = order.now.limits })
         (change (G.told gate.old) (G.told gate.new)) (change (P.told report.old) (P.told report.new)) (change (O.told outlet.old) (O.told outlet.new)) result }
 {
@@ -88,42 +147,6 @@ fn relay_by<P: Sink, G: Gate, O: Outlet>(
         Ok(relayed) => conclude(Status::Done, relay_lines(&relayed).as_str(), report),
         Err(fault) => refuse(refusal_of(fault), report),
     }
-}
-
-/// The order in the words: the ticket is looked at first, and then the ranges of the seed, of `--rate`, `--idle` and `--most`.
-fn order_in(alloc: Global, words: &[String]) -> Result<Order, Refusal>
-    ensures ordered { IfOk result (λ order. OrdersRelaying (texts words.now) (record { ticket = order.ticket; seed = Some order.seed; rate = order.rate; limits = order.limits })) }
-    ensures refused { IfErr result (IsRefusedFor (texts words.now)) }
-{
-    let asked = asked_of(alloc, words, Command::Relay)?;
-    let rate = asked.number(Name::Rate).unwrap();
-    let idle = asked.number(Name::Idle).unwrap();
-    let most = asked.number(Name::Most).unwrap();
-    let ticket = match Ticket::read(asked.text(0)) {
-        Ok(ticket) => ticket,
-        Err(fault) => return Err(Refusal::Ticket(fault)),
-    };
-    let Some(seed) = seed_in(asked.seed()) else {
-        return Err(Refusal::Seed);
-    };
-    if rate > u64::from(MAX_RATE) {
-        return Err(Refusal::Range(Name::Rate));
-    }
-    if idle < 1 || idle > QUIETS_LIMIT {
-        return Err(Refusal::Range(Name::Idle));
-    }
-    if most < 1 || most > DATAGRAMS_LIMIT {
-        return Err(Refusal::Range(Name::Most));
-    }
-    Ok(Order {
-        ticket,
-        seed,
-        rate: rate as u32,
-        limits: Limits {
-            idle: idle as u32,
-            most: most as u32,
-        },
-    })
 }
 
 /// The lines that tell what a relay took and sent.

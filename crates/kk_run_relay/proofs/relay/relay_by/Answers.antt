@@ -14,7 +14,7 @@ use Rattle.std.specs.Prelude.{sum_by}
 use Rattle.kk_report.specs.Refusal.{status_of, refusal_text}
 use Rattle.kk_report.specs.Report.{concluded_text}
 use Rattle.kk_order.specs.Seed.{stream_with}
-use Rattle.kk_run_relay.specs.Relay.{Order, RelaysBy, refusal_of}
+use Rattle.kk_run_relay.specs.Relay.{Relaying, RelaysBy, refusal_of}
 use Rattle.kk_run_relay.proofs.Runs.{list_by, lines_by, cut_all_by, relays_done, relays_gate_failed, relays_outlet_failed}
 use Rattle.kk_report.proofs.Statuses.{through_told}
 use Rattle.kk_run_relay.proofs.relay.relay_by.Goals as goal
@@ -22,7 +22,7 @@ use Rattle.kk_run_relay.proofs.relay.relay_by.Goals as goal
 pub returns-in-Ok : goal.returns-in-Ok
 returns-in-Ok g c =
     let o = c.args.order.now in
-    let order : Order = record { ticket = o.ticket; seed = Some o.seed; rate = o.rate; limits = o.limits } in
+    let order : Relaying = record { ticket = o.ticket; seed = Some o.seed; rate = o.rate; limits = o.limits } in
     let gate = change (g.G.Gate.told c.args.gate.now) (g.G.Gate.told c.relay_all-relayed.new.gate) in
     let report = change (g.P.Sink.told c.args.report.now) (g.P.Sink.told c.conclude.new.report) in
     let outlet = change (g.O.Outlet.told c.args.outlet.now) (g.O.Outlet.told c.relay_all-relayed.new.outlet) in
@@ -39,7 +39,7 @@ returns-in-Ok g c =
 pub returns : goal.returns
 returns g c = by c.in-Err.fault refl
   where
-    order : Order
+    order : Relaying
     order = record { ticket = c.args.order.now.ticket; seed = Some c.args.order.now.seed; rate = c.args.order.now.rate; limits = c.args.order.now.limits }
 
     gate : Change GateTold
