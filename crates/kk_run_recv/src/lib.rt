@@ -5,4 +5,4 @@ mod receiver;
 mod recv;
 mod report;
 
-pub use recv::run_recv;
+pub use recv::{RECV, run_recv};
