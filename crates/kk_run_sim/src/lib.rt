@@ -6,4 +6,4 @@ mod simulation;
 #[cfg(test)]
 mod tests;
 
-pub use sim::run_sim;
+pub use sim::{SIM, run_sim};

@@ -1,22 +1,53 @@
 //! `sim`: a file from a seed goes through an operator channel to a receiver, and a summary comes out.
-ghost use Rattle.std.specs.Prelude.{◌≡◌, [], Some, IfOk, IfErr};
+ghost use Rattle.std.specs.Prelude.{◌≡◌, []};
 ghost use Rattle.kk_outside.specs.Change.{change};
 ghost use Rattle.kk_report.specs.Command.{texts, IsRefusalOfWords};
-ghost use Rattle.kk_run_sim.specs.Sim.{OrdersSimulating, IsRefusedFor, Simulates};
+ghost use Rattle.kk_run_sim.specs.Sim.{Simulates};
 
 use crate::simulation::simulate;
-use kk_code::Ticket;
-use kk_order::{asked_of, seed_in};
+use kk_forms::{Argument, Form};
+use kk_order::{Bound, Limit, OrderFault, OrderForm, TicketPlace, refuse_words};
 use kk_outside::Sink;
-use kk_report::{Refusal, refuse};
 use kk_table::Logs;
 use kk_trial::OperatorChannel;
-use kk_words::{Command, Name};
 use kk_workers::MAX_GATES;
 use rand_chacha::ChaCha20Rng;
 use rand_core::SeedableRng;
 use std::alloc::Global;
 use std::thread::Threads;
+
+/// The words of `sim`: the ticket, what a channel does to each generation, how many gates hear it, and the seed.
+pub const SIM: OrderForm = OrderForm {
+    words: Form {
+        name: "sim",
+        arguments: &[
+            Argument::Word("TICKET"),
+            Argument::NumberWord("erase"),
+            Argument::NumberWord("inject"),
+            Argument::NumberWord("gates"),
+            Argument::TextOption("seed"),
+        ],
+    },
+    ticket: TicketPlace::First,
+    bounds: &[
+        Bound {
+            name: "erase",
+            least: 0,
+            most: Limit::Points,
+        },
+        Bound {
+            name: "inject",
+            least: 0,
+            most: Limit::Degree,
+        },
+        Bound {
+            name: "gates",
+            least: 1,
+            most: Limit::Exactly(MAX_GATES as u64),
+        },
+    ],
+    listeners: None,
+};
 
 /// Makes a file from a seed, passes each of its generations through an operator channel, deals the frames over gates in memory,
 /// receives from them with a worker each, and reports a summary, which is the same for each number of gates.
@@ -35,71 +66,28 @@ pub fn run_sim<R: Threads + Sync, P: Sink>(
     ensures simulates { Simulates (texts words.now) (change (P.told report.old) (P.told report.new)) logs.new.items result }
     ensures none_left { IsRefusalOfWords result → logs.new.items ≡ [] }
 {
-    let order = match order_in(alloc, words) {
+    let order = match SIM.read(alloc, words) {
         Ok(order) => order,
-        Err(refusal) => return refuse(refusal, report),
+        Err(fault) => return refuse_words(fault, report),
     };
-    let mut rng = ChaCha20Rng::from_seed(order.seed);
+    let loss = OperatorChannel {
+        erase: order.number("erase").unwrap() as u32,
+        inject: order.number("inject").unwrap() as u32,
+    };
+    let gates = order.number("gates").unwrap() as u32;
+    let mut rng = ChaCha20Rng::from_seed(order.seed().unwrap());
     let simulated = simulate(
         rt,
         alloc,
-        &order.ticket,
-        order.loss,
-        order.gates,
+        order.ticket(),
+        loss,
+        gates,
         &mut rng,
         report,
         logs,
     );
     match simulated {
         Ok(status) => status,
-        Err(_) => refuse(Refusal::Memory, report),
+        Err(_) => refuse_words(OrderFault::Memory, report),
     }
-}
-
-/// What the words ask to simulate by.
-#[derive(Clone, Copy)]
-struct Order {
-    ticket: Ticket,
-    loss: OperatorChannel,
-    /// How many gates the frames are dealt over.
-    gates: u32,
-    seed: [u8; 32],
-}
-
-/// The order in the words: the ticket is looked at first, and then the ranges of the seed, of what is erased and injected, and
-/// of the number of gates.
-fn order_in(alloc: Global, words: &[String]) -> Result<Order, Refusal>
-    ensures ordered { IfOk result (λ order. OrdersSimulating (texts words.now) (record { ticket = order.ticket; loss = order.loss; gates = order.gates; seed = Some order.seed })) }
-    ensures refused { IfErr result (IsRefusedFor (texts words.now)) }
-{
-    let asked = asked_of(alloc, words, Command::Sim)?;
-    let erase = asked.number(Name::Erase).unwrap();
-    let inject = asked.number(Name::Inject).unwrap();
-    let gates = asked.number(Name::Gates).unwrap();
-    let ticket = match Ticket::read(asked.text(0)) {
-        Ok(ticket) => ticket,
-        Err(fault) => return Err(Refusal::Ticket(fault)),
-    };
-    let Some(seed) = seed_in(asked.seed()) else {
-        return Err(Refusal::Seed);
-    };
-    if erase > u64::from(ticket.code().l()) {
-        return Err(Refusal::Range(Name::Erase));
-    }
-    if inject > u64::from(ticket.code().m()) {
-        return Err(Refusal::Range(Name::Inject));
-    }
-    if gates < 1 || gates > MAX_GATES as u64 {
-        return Err(Refusal::Range(Name::Gates));
-    }
-    let loss = OperatorChannel {
-        erase: erase as u32,
-        inject: inject as u32,
-    };
-    Ok(Order {
-        ticket,
-        loss,
-        gates: gates as u32,
-        seed,
-    })
 }
