@@ -1,20 +1,20 @@
 //! The whole program, over the objects that it is handed.
-ghost use Rattle.std.specs.Prelude.{◌≡◌, ◌⊎◌, ◌≤◌, ℕ, [], Some, None, false, length, drop, map};
+ghost use Rattle.std.specs.Prelude.{◌≡◌, ◌⊎◌, ◌≤◌, ℕ, [], Some, None, Ok, false, length, drop, map};
 ghost use Rattle.kk_outside.specs.Change.{change};
 ghost use Rattle.kk_outside.specs.Source.{bytes_read};
-ghost use Rattle.kk_code.specs.Ticket.{TicketFields};
 ghost use Rattle.kk_workers.specs.Received.{changes};
 ghost use Rattle.kk_report.specs.Command.{texts, IsRefusalOfWords, RanThrough};
 ghost use Rattle.kk_run_recv.specs.Receiver.{received};
 ghost use Rattle.kk_report.specs.Refusal.{IsRefused};
 ghost use Rattle.kk_order.specs.Words.{named_in};
 ghost use Rattle.kk_run_pack.specs.Pack.{Packs};
-ghost use Rattle.kk_run_plan.specs.Plan.{NamesCode, Plans};
+ghost use Rattle.kk_run_plan.specs.Plan.{Plans, plan_form};
 ghost use Rattle.kk_run_relay.specs.Relay.{Relays};
-ghost use Rattle.kk_run_recv.specs.Recv.{Order, OrdersReceiving, Receives};
+ghost use Rattle.kk_run_recv.specs.Recv.{Receives, limits_of, recv_form};
 ghost use Rattle.kk_run_send.specs.Send.{Sends};
 ghost use Rattle.kk_run_sim.specs.Sim.{Simulates};
-ghost use Rattle.kk_run_unpack.specs.Unpack.{UnpacksUnder, unpacked, Unpacks};
+ghost use Rattle.kk_order.specs.Order.{Order, order_of};
+ghost use Rattle.kk_run_unpack.specs.Unpack.{Unpacks, UnpacksBy, max_pieces, unpacked};
 ghost use Rattle.kk_workers.specs.declared.running.TheConstants.{MAX_GATES};
 ghost use Rattle.kk_top.specs.Ends.{uses};
 
@@ -85,17 +85,17 @@ pub fn run<R: Threads + Sync, S: Source, K: Sink, P: Sink, G: Gate + Send, O: Ou
     ensures outlet { (uses (texts words.now)).outlet ≡ false → outlet.new ≡ outlet.old }
     ensures logs { (uses (texts words.now)).logs ≡ false → logs.new ≡ logs.old }
 
-    // A run that ended at once read nothing; of `plan` that is one whose words name no code, or that had no memory.
+    // A run that ended at once read nothing; of `plan` that is one whose words have no order, or that had no memory.
     ensures unread { (named_in (texts words.now) ≡ Some Command.Plan → ⊥) → IsRefusalOfWords result → source.new ≡ source.old }
     ensures unread_by_plan { named_in (texts words.now) ≡ Some Command.Plan
-        → (result ≡ 1) ⊎ ((result ≡ 8) ⊎ ((t : TicketFields) → NamesCode (texts words.now) t → ⊥)) → source.new ≡ source.old }
+        → (result ≡ 1) ⊎ ((result ≡ 8) ⊎ ((order : Order) → order_of plan_form (texts words.now) ≡ Ok order → ⊥)) → source.new ≡ source.old }
 
     // The file's sink is called only by a run that came to its end, and only for a file that has bytes.
     ensures unwritten { (RanThrough result → ⊥) → file.new ≡ file.old }
-    ensures no_bytes_unpacked { (t : TicketFields) (most : ℕ) → UnpacksUnder t most (texts words.now) result
-        → unpacked t most (bytes_read (change (S.told source.old) (S.told source.new))) ≡ Some [] → file.new ≡ file.old }
-    ensures no_bytes_received { (order : Order) → OrdersReceiving (texts words.now) order → (IsRefusalOfWords result → ⊥)
-        → received order.ticket order.limits (changes G.told gates.old.items gates.new.items) ≡ Some [] → file.new ≡ file.old }
+    ensures no_bytes_unpacked { (order : Order) → UnpacksBy order (texts words.now) result
+        → unpacked order.ticket (max_pieces order) (bytes_read (change (S.told source.old) (S.told source.new))) ≡ Some [] → file.new ≡ file.old }
+    ensures no_bytes_received { (order : Order) → order_of recv_form (texts words.now) ≡ Ok order → (IsRefusalOfWords result → ⊥)
+        → received order.ticket (limits_of order) (changes G.told gates.old.items gates.new.items) ≡ Some [] → file.new ≡ file.old }
 
     // `relay` receives from the first gate alone, and no gate is asked by a run that ended at once.
     ensures others { named_in (texts words.now) ≡ Some Command.Relay → drop 1 gates.new.items ≡ drop 1 gates.old.items }
