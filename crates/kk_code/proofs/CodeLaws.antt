@@ -1,5 +1,5 @@
 -- Codewords are graphs, they are far apart, and at most one message decodes a space.
-use Rattle.std.proofs.Common.{◌≡◌, ℕ, ◌/◌, ◌%◌, ◌^◌, ◌<◌, ◌≤◌, true, List, length, sym, ap, ◌∙◌, subst, inl, inr, arith}
+use Rattle.std.proofs.Common.{◌≡◌, ◌+◌, ◌-◌, ℕ, ◌/◌, ◌%◌, ◌^◌, ◌<◌, ◌≤◌, true, List, length, sym, ap, ◌∙◌, subst, inl, inr, arith}
 use Rattle.std.specs.Prelude.{slice_index}
 use Rattle.std.proofs.lemmas.Bool.{cases_lt}
 use Rattle.std.proofs.lemmas.Nat.{div-mul-add, mod-mul-add}
@@ -10,9 +10,10 @@ use Rattle.kk_linpoly.specs.LinPoly.{SamePolynomial, value}
 use Rattle.kk_linpoly.proofs.Values.{value-lt}
 use Rattle.kk_linpoly.proofs.Roots.{same_from_values}
 use Rattle.kk_rows.specs.Span.{in_span}
-use Rattle.kk_rows.specs.Distance.{meet_dimension}
+use Rattle.kk_rows.specs.Distance.{distance, meet_dimension}
 use Rattle.kk_rows.proofs.Distances.{distance_by_meet, distance_comm, distance_triangle}
 use Rattle.kk_code.specs.Codeword.{Parameters, IsCode, IsMessage, row_of, codeword}
+use Rattle.kk_code.specs.Decoding.{Decodes}
 use Rattle.kk_code.specs.Laws.{CodewordIsAGraph, CodewordsAreFarApart, DecodingIsUnique}
 use Rattle.kk_code.proofs.Graphs.{in_codeword, row_from_codeword, dimension-codeword, common_points}
 
@@ -63,10 +64,15 @@ codewords_are_far_apart p code u v hu hv differ =
       | inr many ↦ absurd (differ (same_message p code u v hu hv many))
     ]
 
-pub decoding_is_unique : DecodingIsUnique
-decoding_is_unique p code rows u v du dv =
+-- a message whose codeword is at most one dimension beyond the radius of a space is the one that decodes it
+pub near_is_same : (p : Parameters) → IsCode p → (rows u v : List ℕ) → IsMessage p u → distance (codeword p u) rows ≤ p.l - p.k + 1
+    → Decodes p rows v → u ≡ v
+near_is_same p code rows u v message near decodes =
     let h = code.field.modulus.low_below in
     let a = codeword p u in
     let b = codeword p v in
-    same_message p code u v du.message dv.message
-    (omega (arith, distance_by_meet a b, distance_triangle a rows b, distance_comm rows b, du.within, dv.within, dimension-codeword p h u, dimension-codeword p h v, code.k_high))
+    same_message p code u v message decodes.message
+    (omega (arith, distance_by_meet a b, distance_triangle a rows b, distance_comm rows b, near, decodes.within, dimension-codeword p h u, dimension-codeword p h v, code.k_high))
+
+pub decoding_is_unique : DecodingIsUnique
+decoding_is_unique p code rows u v du dv = near_is_same p code rows u v du.message (omega (arith, du.within)) dv

@@ -1,5 +1,5 @@
--- The search through all messages finds the one that decodes a space.
-use Rattle.std.proofs.Common.{◌≡◌, ℕ, zero, suc, Bool, true, false, cond, ◌+◌, ◌*◌, ◌/◌, ◌%◌, ◌^◌, ◌<◌, List, [], ◌∷◌, length, get_or, refl, sym, ap, ap₂, ◌∙◌, subst, inl, inr, arith}
+-- The search through all messages finds the one that decodes a space, and no other near it.
+use Rattle.std.proofs.Common.{◌≡◌, ◌-◌, ℕ, zero, suc, Bool, true, false, cond, ◌+◌, ◌*◌, ◌/◌, ◌%◌, ◌^◌, ◌<◌, List, [], ◌∷◌, length, get_or, refl, sym, ap, ap₂, ◌∙◌, subst, inl, inr, arith}
 use Rattle.std.specs.Prelude.{All, Option, Some, None}
 use Rattle.std.specs.List.{find, range_with_len}
 use Rattle.std.proofs.Math.Nat.{mul_comm, mul_assoc, add_assoc, add-mul}
@@ -7,10 +7,11 @@ use Rattle.std.proofs.lemmas.Bool.{cases_Bool, le-leb, leb-true, false_from_ne_t
 use Rattle.std.proofs.lemmas.Nat.{pow-add, pow_pos, mul-add-lt, div-mul-add, mod-mul-add}
 use Rattle.std.proofs.lemmas.List.FromFn.{length-map-range_with_len, get_or-map-range_with_len}
 use Rattle.std.proofs.lemmas.List.Elements.{All-nil, All-cons, All-head, All-tail, All-map, All-from_get_or}
-use Rattle.kk_code.specs.Codeword.{Parameters, IsCode, IsMessage}
+use Rattle.kk_rows.specs.Distance.{distance}
+use Rattle.kk_code.specs.Codeword.{Parameters, IsCode, IsMessage, codeword}
 use Rattle.kk_code.specs.Decoding.{Decodes, message_at, messages, within_radius, answer}
-use Rattle.kk_code.specs.Laws.{AnswerIsTheMessage}
-use Rattle.kk_code.proofs.CodeLaws.{decoding_is_unique}
+use Rattle.kk_code.specs.Laws.{AnswerIsTheMessage, OneBeyondIsNeverWrong}
+use Rattle.kk_code.proofs.CodeLaws.{decoding_is_unique, near_is_same}
 
 -- ---- the number of a message
 
@@ -153,3 +154,14 @@ answer_is_the_message = record {
     answer-of_none p rows,
   );
 }
+
+pub one_beyond_is_never_wrong : OneBeyondIsNeverWrong
+one_beyond_is_never_wrong = record {
+  same = λ p code rows u v message near found. near_is_same p code rows u v message near (answer-decodes p rows v found);
+  none = λ p code rows u message at. answer-of_none p rows (λ v d. beyond p code rows u v message at d (near_is_same p code rows u v message (omega (arith, at)) d));
+}
+  where
+    -- a message at distance l - k + 1 doesn't decode the space
+    beyond : (p : Parameters) → IsCode p → (rows u v : List ℕ) → IsMessage p u → distance (codeword p u) rows ≡ p.l - p.k + 1
+        → Decodes p rows v → u ≡ v → ⊥
+    beyond p code rows u v message at d same = omega (arith, at, d.within, ap (λ w. distance (codeword p w) rows) same)

@@ -61,3 +61,11 @@ DecodingIsUnique = (p : Parameters) → IsCode p → (rows u v : List ℕ) → D
 pub record AnswerIsTheMessage : Type 0 where
   pub some : (p : Parameters) → IsCode p → (rows u : List ℕ) → (answer p rows ≡ Some u) ↔ Decodes p rows u
   pub none : (p : Parameters) → IsCode p → (rows : List ℕ) → (answer p rows ≡ None) ↔ ((u : List ℕ) → Decodes p rows u → ⊥)
+
+-- A space within distance l - k + 1 of a codeword, one more than the radius, has no other answer than the codeword's message,
+-- and none where it lies at that distance: every other codeword is farther than the radius.
+pub record OneBeyondIsNeverWrong : Type 0 where
+  pub same : (p : Parameters) → IsCode p → (rows u v : List ℕ) → IsMessage p u → distance (codeword p u) rows ≤ p.l - p.k + 1
+      → answer p rows ≡ Some v → u ≡ v
+  pub none : (p : Parameters) → IsCode p → (rows u : List ℕ) → IsMessage p u → distance (codeword p u) rows ≡ p.l - p.k + 1
+      → answer p rows ≡ None

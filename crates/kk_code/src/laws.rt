@@ -1,5 +1,5 @@
 //! Laws of codewords and of the definitions of tickets, each the contract of a function that does nothing.
-ghost use Rattle.kk_code.specs.Laws.{CodewordIsAGraph, CodewordsAreFarApart, DecodingIsUnique, AnswerIsTheMessage};
+ghost use Rattle.kk_code.specs.Laws.{CodewordIsAGraph, CodewordsAreFarApart, DecodingIsUnique, AnswerIsTheMessage, OneBeyondIsNeverWrong};
 ghost use Rattle.kk_code.specs.Laws.{TextIsOfATicket, TicketHasItsText, TicketHasOneText, TextIsATicketOrFaulty, TicketHasNoFault, TextHasOneFault, TicketOfIsExact};
 
 /// What a text spells is a ticket: its numbers are in range, its modulus is irreducible, and its file isn't too long.
@@ -55,4 +55,9 @@ pub fn decoding_is_unique()
 /// The answer is u exactly where u decodes the space, and there is none exactly where no message does.
 pub fn answer_is_the_message()
     ensures { AnswerIsTheMessage }
+{}
+
+/// One dimension beyond the radius l - k of the codeword that was sent a space has no answer, and so no wrong one.
+pub fn one_beyond_is_never_wrong()
+    ensures { OneBeyondIsNeverWrong }
 {}
