@@ -29,3 +29,14 @@ all_messages-range answer message a (suc n) each =
     let first : answer a ≡ Some (message a) = each a (omega arith) (omega arith) in
     let others = all_messages-range answer message (a + 1) n (λ g above below. each g (omega arith) (omega arith)) in
     rw (first, others) refl
+
+-- where all the messages are there, each answer is one
+pub all_messages-is_some : (answers : List (Option (List ℕ))) → IsSome (all_messages answers) → All IsSome answers
+unfolding all_messages
+all_messages-is_some [] made = All-nil IsSome
+all_messages-is_some (None ∷ answers) made = absurd cc
+all_messages-is_some (Some message ∷ answers) made = All-cons IsSome (Some message) answers refl (all_messages-is_some answers (unmapped (all_messages answers) made))
+  where
+    unmapped : (found : Option (List (List ℕ))) → IsSome (option_map (λ messages. message ∷ messages) found) → IsSome found
+    unmapped None none = none
+    unmapped (Some messages) some = refl

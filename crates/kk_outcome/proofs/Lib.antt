@@ -1,2 +1,3 @@
+pub mod OneBeyond
 pub mod Outcomes
 pub mod Texts

@@ -1,11 +1,11 @@
 -- What the logs of a receiver with no goal decode to, and how its inserts were answered: by the data frames that were taken.
-use Rattle.std.proofs.Common.{◌≡◌, ℕ, zero, suc, ◌-◌, ◌<◌, List, [], ◌∷◌, length, get_or, Option, None, refl, ap, sym, ◌∙◌, arith}
+use Rattle.std.proofs.Common.{◌≡◌, ℕ, zero, suc, ◌<◌, List, [], ◌∷◌, length, get_or, Option, None, refl, ap, sym, ◌∙◌, arith}
 use Rattle.std.specs.Prelude.{map, sum_by}
 use Rattle.std.specs.List.{range_with_len}
 use Rattle.std.proofs.lemmas.List.{same_lists, length-map}
 use Rattle.std.proofs.lemmas.List.FromFn.{length-map-range_with_len, get_or-map-range_with_len}
 use Rattle.std.proofs.lemmas.List.Sums.{sum-map}
-use Rattle.kk_rows.specs.Span.{dimension, innovative}
+use Rattle.kk_rows.specs.Span.{dimension}
 use Rattle.kk_rows.proofs.Dimensions.{dimension-same_span, in_span_innovative}
 use Rattle.kk_outside.specs.Change.{Change}
 use Rattle.kk_outside.specs.Gate.{GateTold}

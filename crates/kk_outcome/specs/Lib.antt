@@ -1,3 +1,4 @@
 pub mod Answers
 pub mod Delivery
+pub mod Laws
 pub mod Outcome

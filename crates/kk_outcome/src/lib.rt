@@ -2,6 +2,7 @@
 #![tactic(auto)]
 
 mod delivery;
+pub mod laws;
 mod lines;
 
 pub use delivery::{deliver, room_of};
