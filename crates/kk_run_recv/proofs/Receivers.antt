@@ -27,6 +27,7 @@ use Rattle.kk_frame.specs.declared.limits.Limits.{Limits}
 use Rattle.kk_frame.specs.declared.gate_count.Ended.{Ended}
 use Rattle.kk_frame.specs.declared.gate_count.Ended.TheVariants as ended
 use Rattle.kk_frame.specs.declared.gate_count.GateCount.{GateCount}
+use Rattle.kk_frame.specs.Counting.{no_counts}
 use Rattle.kk_frame.specs.Events.{counts, ended_by_fault}
 use Rattle.kk_frame.specs.Generation.{rows_of}
 use Rattle.kk_machine.specs.declared.log.Log.{Log}
@@ -36,14 +37,15 @@ use Rattle.kk_table.specs.declared.view.Known.{Known}
 use Rattle.kk_table.specs.Logs.{LogsView, log_at}
 use Rattle.kk_outside.specs.Gate.{GateFailed}
 use Rattle.kk_workers.specs.declared.plan.Plan.{Plan}
-use Rattle.kk_workers.specs.Worker.{no_counts}
 use Rattle.kk_workers.specs.Laws.{IsTolerable}
 use Rattle.kk_workers.specs.Received.{all_taken, ReceivedView, HasOneHistory, AddUp}
 use Rattle.kk_workers.proofs.Sent.{frozen_rows_decode}
+use Rattle.kk_outcome.proofs.OneBeyond.{one_beyond_is_no_other_file}
 use Rattle.kk_outcome.proofs.Outcomes.{ticket_code, map_at, one_each as answered_each, answer_is, answers_are, rank_is, totals_are}
 use Rattle.kk_outcome.specs.Answers.{frozen, answers, file_of, file_text, outcomes_of}
 use Rattle.kk_report.specs.Command.{RanThrough}
 use Rattle.kk_outcome.specs.Delivery.{IsDelivered}
+use Rattle.kk_outcome.specs.Laws.{AreOneBeyondAtMost}
 use Rattle.kk_run_recv.specs.Receiver.{received, gate_counts, some_fault, SomeFailed, after_gates, report_of, view_report, IsRunOf, IsFileOf, IsReceiver}
 use Rattle.kk_run_recv.specs.Report.{logged, logged_outcomes, receiver_report}
 use Rattle.kk_report.proofs.Statuses.{IsStatusOf}
@@ -173,6 +175,10 @@ module _ (t : TicketFields) (plan : Plan) (gates : List (Change GateTold)) (r : 
 
     pub within_radius : ((g : ℕ) → g < n → distance (codeword t.code (cut t.code sent g)) (log_at r.logs.logs g).rows ≤ t.code.l - t.code.k) → file_of t r.answers ≡ Some sent
     within_radius near = file_by (λ g below. record { message = cut_is_message t.code sent g; within = near g below })
+
+    pub one_beyond : (made : List ℕ) → AreOneBeyondAtMost t sent (λ g. (log_at r.logs.logs g).rows) → file_of t r.answers ≡ Some made → made ≡ sent
+    one_beyond made near made_is =
+        one_beyond_is_no_other_file t sent made (λ g. (log_at r.logs.logs g).rows) ticket is.len is.bytes near (sym (ap (file_of t) logs_answer) ∙ made_is)
 
     pub tolerates : (tolerated : ℕ) → plan.goal ≡ Some (t.code.k + 2 * tolerated)
         → ((g : ℕ) → g < n → IsTolerable t.code tolerated (rows_of g vectors) (cut t.code sent g))
@@ -319,6 +325,7 @@ module _ (t : TicketFields) (plan : Plan) (gates : List (Change GateTold)) (r : 
             (subst (λ o. IsDelivered o delivered file) (sym (file_is t plan gates r line sums no_goal)) is_delivered) told_so same five
             (subst (λ text. WasGiven text report) (report_is t plan gates r line sums no_goal told) given_view);
         within_radius = λ sent is. within_radius t plan gates r line sums ticket sent is;
+        one_beyond = λ sent made is. one_beyond t plan gates r line sums ticket sent is made;
         tolerates = λ tolerated sent goal is. tolerates t plan gates r line sums ticket sent is tolerated goal;
       }
 

@@ -19,6 +19,7 @@ use Rattle.kk_outside.specs.Gate.{GateFailed}
 use Rattle.kk_workers.specs.Received.{all_taken, ReceivedView, HasOneHistory, AddUp}
 use Rattle.kk_workers.specs.Laws.{IsTolerable}
 use Rattle.kk_outcome.specs.Answers.{file_of, file_text, outcomes_of, totals_of}
+use Rattle.kk_outcome.specs.Laws.{AreOneBeyondAtMost}
 use Rattle.kk_report.specs.Command.{RanThrough}
 use Rattle.kk_run_recv.specs.Report.{logged_outcomes, receiver_report}
 
@@ -95,6 +96,9 @@ pub record IsReceiver (t : TicketFields) (plan : Plan) (gates : List (Change Gat
   pub within_radius : (sent : List ℕ) → IsFileOf t sent
       → ((g : ℕ) → g < generations t → distance (codeword t.code (cut t.code sent g)) (log_at view.logs.logs g).rows ≤ t.code.l - t.code.k)
       → file_of t view.answers ≡ Some sent
+  -- One dimension beyond, it is never another: it is the one that was sent, or there is none.
+  pub one_beyond : (sent made : List ℕ) → IsFileOf t sent → AreOneBeyondAtMost t sent (λ g. (log_at view.logs.logs g).rows)
+      → file_of t view.answers ≡ Some made → made ≡ sent
   -- With a goal it is that, and what a receiver on one thread writes, where the rows that came are within what is tolerated.
   pub tolerates : (n : ℕ) (sent : List ℕ) → plan.goal ≡ Some (t.code.k + 2 * n) → IsFileOf t sent
       → ((g : ℕ) → g < generations t → IsTolerable t.code n (rows_of g (all_taken t plan.limits gates)) (cut t.code sent g))

@@ -8,7 +8,7 @@ ghost use Rattle.kk_run_recv.specs.Receiver.{some_fault, after_gates, IsReceiver
 ghost use Rattle.kk_report.specs.Status.{code_of};
 ghost use Rattle.kk_workers.specs.declared.running.TheConstants.{MAX_GATES};
 
-use crate::report::{Extent, report_gates};
+use crate::report::report_gates;
 use kk_code::Ticket;
 use kk_frame::Ended;
 use kk_outcome::{deliver, room_of};
@@ -53,34 +53,28 @@ pub(crate) fn receive_under<R: Threads + Sync, K: Sink, P: Sink, G: Gate + Send>
     let mut bytes = room_of(alloc, ticket)?;
     logs.reserve(1)?;
     let received = receive(rt, alloc, ticket, gates, plan)?;
-    let extent = Extent {
-        gates: gates.len(),
-        generations: ticket.generations(),
-    };
     let delivered = deliver(received.answers(), ticket, &mut bytes, file);
-    let status = status_after(delivered, &received, extent.gates);
-    let code = report_gates(status, &received, extent, report);
+    let status = status_after(delivered, &received);
+    let code = report_gates(status, &received, report);
     logs.push_reserved(received.into_logs());
     Ok(code)
 }
 
 /// The status, where the file was delivered so: a generation that doesn't decode has another one where a gate failed.
-fn status_after(delivered: Status, received: &Received, gates: usize) -> Status
-    requires gates { gates ≡ length received.now.gates }
+fn status_after(delivered: Status, received: &Received) -> Status
     ensures { code_of result ≡ after_gates (code_of delivered) (some_fault received.now.gates) }
 {
     match delivered {
-        Status::NotDecoded if has_fault(received, gates) => Status::GateFailed,
+        Status::NotDecoded if has_fault(received) => Status::GateFailed,
         _ => delivered,
     }
 }
 
 /// Whether some gate ended by a fault.
-fn has_fault(received: &Received, gates: usize) -> bool
-    requires gates { gates ≡ length received.now.gates }
+fn has_fault(received: &Received) -> bool
     ensures { result ≡ some_fault received.now.gates }
 {
-    for i in 0..gates {
+    for i in 0..received.gates().len() {
         if is_fault(received.gate(i).ended) {
             return true;
         }

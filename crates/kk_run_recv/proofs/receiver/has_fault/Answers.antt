@@ -1,4 +1,4 @@
-use Rattle.std.proofs.Common.{◌∙◌, sym, ap, arith}
+use Rattle.std.proofs.Common.{◌∙◌, length, sym, ap, arith}
 use Rattle.std.proofs.lemmas.Option.{get_or_from_slice_get}
 use Rattle.std.proofs.lemmas.List.{take_all}
 use Rattle.kk_run_recv.specs.Receiver.{some_fault}
@@ -10,16 +10,16 @@ returns-then-is_fault c =
     let gates = c.args.received.now.gates in
     let i = c.loop-i.i in
     let one = c.gate.result in
-    sym (some_fault-at gates i one (omega (arith, c.loop-i-test.true, c.requires.gates)) (get_or_from_slice_get gates i one one c.gate.ensures) (sym c.is_fault.ensures ∙ c.if-is_fault.true))
+    sym (some_fault-at gates i one (omega (arith, c.loop-i-test.true, ap length c.gates-i-end.ensures)) (get_or_from_slice_get gates i one one c.gate.ensures) (sym c.is_fault.ensures ∙ c.if-is_fault.true))
 
 pub loop-i-preserved : goal.loop-i-preserved
 loop-i-preserved c =
     let gates = c.args.received.now.gates in
     let i = c.loop-i.i in
     let one = c.gate.result in
-    some_fault-more gates i one (omega (arith, c.loop-i-test.true, c.requires.gates)) (get_or_from_slice_get gates i one one c.gate.ensures) (sym c.is_fault.ensures ∙ c.if-is_fault.false) c.loop-i.invariant
+    some_fault-more gates i one (omega (arith, c.loop-i-test.true, ap length c.gates-i-end.ensures)) (get_or_from_slice_get gates i one one c.gate.ensures) (sym c.is_fault.ensures ∙ c.if-is_fault.false) c.loop-i.invariant
 
 pub returns : goal.returns
 returns c =
     let gates = c.args.received.now.gates in
-    sym (ap some_fault (sym (take_all c.loop-i.i gates (omega (arith, c.loop-i-test.false, c.requires.gates)))) ∙ c.loop-i.invariant)
+    sym (ap some_fault (sym (take_all c.loop-i.i gates (omega (arith, c.loop-i-test.false, ap length c.gates-i-end.ensures)))) ∙ c.loop-i.invariant)

@@ -1,4 +1,4 @@
-use Rattle.std.proofs.Common.{◌≡◌, ◌<◌, ◌∙◌, length, get_or, sym, arith}
+use Rattle.std.proofs.Common.{◌≡◌, ◌<◌, ◌∙◌, length, get_or, sym, ap, arith}
 use Rattle.std.proofs.lemmas.Option.{get_or_from_slice_get}
 use Rattle.std.proofs.lemmas.Result.{err_from_is_err_and}
 use Rattle.kk_report.specs.Report.{gate_line}
@@ -12,7 +12,7 @@ returns-in_err-push-clause-adds g c =
     let loop = c.loop-i in
     let gates = c.args.received.now.gates in
     let one = c.gate.result in
-    let within : loop.i < length gates = omega (arith, c.loop-i-test.true, c.requires.gates) in
+    let within : loop.i < length gates = omega (arith, c.loop-i-test.true, ap length c.gates-i-end.ensures) in
     let at : one ≡ get_or gates loop.i one = sym (get_or_from_slice_get gates loop.i one one c.gate.ensures) in
     let text : c.as_bytes.result.now ≡ gate_line loop.i one = c.as_bytes.ensures.value ∙ c.as_str.ensures.value ∙ c.gate_line-line.ensures in
     let p = err_from_is_err_and c.from_residual.result c.from_residual.ensures.1 in
@@ -24,7 +24,7 @@ loop-i-preserved g c =
     let loop = c.loop-i in
     let gates = c.args.received.now.gates in
     let one = c.gate.result in
-    let within : loop.i < length gates = omega (arith, c.loop-i-test.true, c.requires.gates) in
+    let within : loop.i < length gates = omega (arith, c.loop-i-test.true, ap length c.gates-i-end.ensures) in
     let at : one ≡ get_or gates loop.i one = sym (get_or_from_slice_get gates loop.i one one c.gate.ensures) in
     let text : c.as_bytes.result.now ≡ gate_line loop.i one = c.as_bytes.ensures.value ∙ c.as_str.ensures.value ∙ c.gate_line-line.ensures in
     record {

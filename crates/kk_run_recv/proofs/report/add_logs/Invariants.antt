@@ -6,6 +6,6 @@ use Rattle.kk_run_recv.proofs.report.add_logs.Given as goal
 
 abbrev pub invariant-loop-generation : goal.invariant-loop-generation
 invariant-loop-generation g l = record {
-  added : Added (g.P.Sink.told l.fn.report) (g.P.Sink.told l.report) l.fn.block l.block (generation_lines (take l.generation (logged_outcomes l.generations l.received.logs.logs l.received.answers)));
+  added : Added (g.P.Sink.told l.fn.report) (g.P.Sink.told l.report) l.fn.block l.block (generation_lines (take l.generation (logged_outcomes l.received.logs.shape.generations l.received.logs.logs l.received.answers)));
   same : (g.P.Sink.told l.report).faults ≡ (g.P.Sink.told l.fn.report).faults;
 }
