@@ -1,8 +1,8 @@
--- The rows of a basis, in an array.
-use Rattle.std.proofs.Common.{◌≡◌, ℕ, ◌+◌, ◌<◌, ◌≤◌, ◌^◌, true, false, eqb, List, [], ◌∷◌, ◌++◌, length, take, set, refl, ap, ◌∙◌, arith, length-append}
+-- The rows of a basis.
+use Rattle.std.proofs.Common.{◌≡◌, ℕ, ◌+◌, ◌<◌, ◌≤◌, ◌^◌, true, false, eqb, List, [], ◌∷◌, ◌++◌, length, refl, ◌∙◌, arith, length-append}
 use Rattle.std.proofs.lemmas.Bool.{eqb-true}
 use Rattle.std.proofs.lemmas.Bool.Decides.{nat_tests}
-use Rattle.std.proofs.lemmas.List.{take_more_set, length-map, length-take-le, map-append}
+use Rattle.std.proofs.lemmas.List.{length-map}
 use Rattle.std.proofs.lemmas.List.Elements.{All-nil, All-push}
 use Rattle.kk_rows.specs.Span.{in_span, innovative_after}
 use Rattle.kk_rows.specs.declared.rows.Row.{Row}
@@ -12,21 +12,12 @@ use Rattle.kk_rows.proofs.Dimensions.{dimension-le_width}
 use Rattle.kk_rows.proofs.Independence.{independent-push}
 use Rattle.kk_relay.specs.RelayState.{BasisState, no_rows, with_row, IsBasis, rank}
 
-pub length-front : (slots : List Row) (n : ℕ) → n ≤ length slots → length (numbers (take n slots)) ≡ n
-length-front slots n within = length-map (take n slots) (λ (row : Row). row.0) ∙ length-take-le n slots within
-
 -- whether there are rows, seen as numbers
 pub none_in : (rows : List Row) → eqb (length rows) 0 ≡ true → length (numbers rows) ≡ 0
 none_in rows none = length-map rows (λ (row : Row). row.0) ∙ eqb-true (length rows) 0 none
 
 pub some_in : (rows : List Row) → eqb (length rows) 0 ≡ false → 0 < length (numbers rows)
 some_in rows some = let n : length (numbers rows) ≡ length rows = length-map rows (λ (row : Row). row.0) in grind (arith, nat_tests, n, some)
-
--- one row more in the array
-pub front-push : (slots : List Row) (n : ℕ) (row : Row) → n < length slots → numbers (take (n + 1) (set slots n row)) ≡ numbers (take n slots) ++ row.0 ∷ []
-front-push slots n row within =
-    let N : List Row → List ℕ = numbers in
-    ap N (take_more_set slots n row within) ∙ map-append (λ (r : Row). r.0) (take n slots) (row ∷ [])
 
 -- ---- one row more
 

@@ -3,9 +3,7 @@ use Rattle.std.specs.Prelude.{◌≡◌, ◌⊎◌, ℕ, ◌+◌, ◌-◌, ◌<�
 use Rattle.rand_core.specs.Stream.{Stream}
 use Rattle.kk_outside.specs.Change.{Change}
 use Rattle.kk_outside.specs.Outlet.{OutletTold, append_datagrams, append_failing}
-pub use Rattle.kk_outside.specs.Outlet.{IsCutShort}
 use Rattle.kk_code.specs.Ticket.{TicketFields}
-pub use Rattle.kk_frame.specs.Asking.{AsksUpToStop, StopsThere}
 use Rattle.kk_relay.specs.Relaying.{relayed, datagrams_of}
 use Rattle.kk_relay.specs.RelayState.{BasisState, relay_after}
 use Rattle.kk_outside.specs.Generator.{after_words, word_at}

@@ -4,8 +4,11 @@ ghost use Rattle.kk_rows.specs.Rows.{numbers};
 ghost use Rattle.kk_rows.specs.declared.row_space.TheConstants.{MAX_WIDTH};
 ghost use Rattle.kk_relay.specs.RelayState.{no_rows, with_row, rank};
 
-use kk_rows::{MAX_WIDTH, Row, RowSpace};
+use kk_rows::{MAX_WIDTH, Row, RowList, RowSpace};
 use std::marker::Model;
+
+/// The most innovative rows of a generation: as many as a row has bits.
+const MAX_RANK: usize = MAX_WIDTH as usize;
 
 /// The innovative rows of a generation, in the order in which they came: those that weren't in the span of the rows before
 /// them. They are kept as they came, since combinations are made of them, and in reduced form, by which the next one is
@@ -13,24 +16,21 @@ use std::marker::Model;
 #[derive(Drop)]
 pub(crate) struct Basis {
     space: RowSpace,
-    rows: [Row; MAX_WIDTH as usize],
-    rank: u32,
+    rows: RowList<MAX_RANK>,
 }
 
 impl Model for Basis {
-    ghost use Rattle.std.specs.Prelude.{◌≡◌, ℕ, length, take};
-    ghost use Rattle.kk_rows.specs.Rows.{numbers};
+    ghost use Rattle.std.specs.Prelude.{◌≡◌, ℕ};
     ghost use Rattle.kk_rows.specs.Span.{in_span};
     ghost use Rattle.kk_relay.specs.RelayState.{BasisState, IsBasis};
 
     ghost Value = { BasisState };
 
-    ghost view = { λ b. record { width = b.space.width; rows = numbers (take b.rank b.rows) } };
+    ghost view = { λ b. record { width = b.space.width; rows = b.rows } };
 
     ghost invariant = { λ b.
-        (length (numbers (take b.rank b.rows)) ≡ b.rank)
-        × IsBasis (record { width = b.space.width; rows = numbers (take b.rank b.rows) })
-        × ((x : ℕ) → in_span b.space.rows x ≡ in_span (numbers (take b.rank b.rows)) x) };
+        IsBasis (record { width = b.space.width; rows = b.rows })
+        × ((x : ℕ) → in_span b.space.rows x ≡ in_span b.rows x) };
 }
 
 impl Basis {
@@ -42,8 +42,7 @@ impl Basis {
     {
         Basis {
             space: RowSpace::new(width),
-            rows: [Row(0); MAX_WIDTH as usize],
-            rank: 0,
+            rows: RowList::new(),
         }
     }
 
@@ -53,8 +52,7 @@ impl Basis {
         ensures { self.new ≡ with_row self.old row.0 }
     {
         if self.space.insert(row).is_some() {
-            self.rows[self.rank as usize] = row;
-            self.rank += 1;
+            self.rows.push(row);
         }
     }
 
@@ -63,7 +61,7 @@ impl Basis {
         ensures rows { numbers result.now ≡ self.now.rows }
         ensures below { All (λ row. row < 2 ^ self.now.width) (numbers result.now) }
     {
-        &self.rows[..self.rank as usize]
+        self.rows.as_slice()
     }
 
     /// How many rows there are, which is the dimension of their span.
@@ -71,6 +69,6 @@ impl Basis {
         ensures rank { result ≡ rank self.now }
         ensures few { result ≤ MAX_WIDTH }
     {
-        self.rank
+        self.rows.as_slice().len() as u32
     }
 }
