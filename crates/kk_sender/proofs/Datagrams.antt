@@ -104,7 +104,7 @@ text_more : (t : TicketFields) (frames : List FrameValue) (frame : FrameValue) �
 text_more t frames frame = sym (flat_map-append (frame_text t) frames (frame ∷ []) ∙ ap (λ l. text_of t frames ++ l) (append-nil (frame_text t frame)))
 
 -- nothing is out, and nothing waits
-pub IsPending-start : (t : TicketFields) (now : OutletTold) (pack : ℕ) → 0 < pack → IsPending t (change now now) (record { pack = pack; frames = 0; bytes = [] }) []
+pub IsPending-start : (t : TicketFields) (now : OutletTold) (pack : ℕ) → 0 < pack → IsPending t (change now now) (record { frames_per_datagram = pack; frames = 0; bytes = [] }) []
 IsPending-start t now pack some = record {
   out = [];
   waiting = [];
@@ -116,7 +116,7 @@ IsPending-start t now pack some = record {
 
 -- a frame more waits
 pub IsPending-waits : (t : TicketFields) (outlet : Change OutletTold) (old new : DatagramState) (frames : List FrameValue) (frame : FrameValue)
-    → new.pack ≡ old.pack → new.frames ≡ old.frames + 1 → new.bytes ≡ old.bytes ++ frame_text t frame → IsPending t outlet old frames → IsPending t outlet new (frames ++ frame ∷ [])
+    → new.frames_per_datagram ≡ old.frames_per_datagram → new.frames ≡ old.frames + 1 → new.bytes ≡ old.bytes ++ frame_text t frame → IsPending t outlet old frames → IsPending t outlet new (frames ++ frame ∷ [])
 IsPending-waits t outlet old new frames frame same more bytes pending =
     let is = pending.is_out in record {
       out = pending.out;
@@ -133,27 +133,27 @@ IsPending-waits t outlet old new frames frame same more bytes pending =
 
 -- the datagram, with a frame more, went out
 pub IsPending-sent : (t : TicketFields) (start now after : OutletTold) (old new : DatagramState) (datagram : List ℕ) (frames : List FrameValue) (frame : FrameValue)
-    → 0 < old.pack → new.pack ≡ old.pack → new.frames ≡ 0 → new.bytes ≡ [] → old.frames + 1 ≡ old.pack → datagram ≡ old.bytes ++ frame_text t frame → after.sends ≡ append_datagrams now.sends (datagram ∷ [])
+    → 0 < old.frames_per_datagram → new.frames_per_datagram ≡ old.frames_per_datagram → new.frames ≡ 0 → new.bytes ≡ [] → old.frames + 1 ≡ old.frames_per_datagram → datagram ≡ old.bytes ++ frame_text t frame → after.sends ≡ append_datagrams now.sends (datagram ∷ [])
     → IsPending t (change start now) old frames → IsPending t (change start after) new (frames ++ frame ∷ [])
 IsPending-sent t start now after old new datagram frames frame some same none empty full bytes went pending =
     let is = pending.is_out in
     let last = pending.waiting ++ frame ∷ [] in
-    let many : length last ≡ old.pack = omega (arith, full, pending.count, length-append pending.waiting (frame ∷ [])) in
+    let many : length last ≡ old.frames_per_datagram = omega (arith, full, pending.count, length-append pending.waiting (frame ∷ [])) in
     let text : datagram ≡ text_of t last = bytes ∙ ap (λ l. l ++ frame_text t frame) pending.bytes ∙ text_more t pending.waiting frame in
-    let list : datagrams_of t old.pack (pending.out ++ last) ≡ datagrams_of t old.pack pending.out ++ datagram ∷ [] =
-    datagrams-append t old.pack is.count pending.out last some is.whole
-    ∙ ap (λ l. datagrams_of t old.pack pending.out ++ l) (datagrams-last t old.pack last (omega (arith, many, some)) (omega (arith, many)) ∙ ap (λ d. d ∷ []) (sym text)) in
+    let list : datagrams_of t old.frames_per_datagram (pending.out ++ last) ≡ datagrams_of t old.frames_per_datagram pending.out ++ datagram ∷ [] =
+    datagrams-append t old.frames_per_datagram is.count pending.out last some is.whole
+    ∙ ap (λ l. datagrams_of t old.frames_per_datagram pending.out ++ l) (datagrams-last t old.frames_per_datagram last (omega (arith, many, some)) (omega (arith, many)) ∙ ap (λ d. d ∷ []) (sym text)) in
     record {
       out = pending.out ++ last;
       waiting = [];
       is_out = record {
         parts = ap (λ l. l ++ frame ∷ []) is.parts ∙ append_assoc pending.out pending.waiting (frame ∷ []) ∙ sym (append-nil (pending.out ++ last));
         count = suc is.count;
-        whole = length-append pending.out last ∙ omega (arith, is.whole, many, suc-mul is.count old.pack) ∙ ap (λ n. suc is.count * n) (sym same);
+        whole = length-append pending.out last ∙ omega (arith, is.whole, many, suc-mul is.count old.frames_per_datagram) ∙ ap (λ n. suc is.count * n) (sym same);
       };
       sent =
           went ∙ ap (λ s. append_datagrams s (datagram ∷ [])) pending.sent
-          ∙ append_datagrams-append start.sends (datagrams_of t old.pack pending.out) (datagram ∷ [])
+          ∙ append_datagrams-append start.sends (datagrams_of t old.frames_per_datagram pending.out) (datagram ∷ [])
           ∙ ap (append_datagrams start.sends) (sym list)
           ∙ ap (λ n. append_datagrams start.sends (datagrams_of t n (pending.out ++ last))) (sym same);
       bytes = empty;
@@ -162,7 +162,7 @@ IsPending-sent t start now after old new datagram frames frame some same none em
 
 -- its send failed
 pub IsCut-unsent : (t : TicketFields) (start now after : OutletTold) (old : DatagramState) (frames : List FrameValue) (frame : FrameValue)
-    → after.sends ≡ now.sends ++ Failed ∷ [] → IsPending t (change start now) old frames → IsCut t old.pack (change start after) (frames ++ frame ∷ [])
+    → after.sends ≡ now.sends ++ Failed ∷ [] → IsPending t (change start now) old frames → IsCut t old.frames_per_datagram (change start after) (frames ++ frame ∷ [])
 IsCut-unsent t start now after old frames frame failed pending =
     let is = pending.is_out in record {
       out = pending.out;
@@ -178,17 +178,17 @@ IsCut-unsent t start now after old frames frame failed pending =
 
 -- the frames that wait were all that is left, and they went out
 pub sent_all : (t : TicketFields) (start now after : OutletTold) (held : DatagramState) (frames : List FrameValue)
-    → 0 < held.pack → held.frames ≤ held.pack → 0 < held.frames → after.sends ≡ append_datagrams now.sends (held.bytes ∷ []) → IsPending t (change start now) held frames
-    → after.sends ≡ append_datagrams start.sends (datagrams_of t held.pack frames)
+    → 0 < held.frames_per_datagram → held.frames ≤ held.frames_per_datagram → 0 < held.frames → after.sends ≡ append_datagrams now.sends (held.bytes ∷ []) → IsPending t (change start now) held frames
+    → after.sends ≡ append_datagrams start.sends (datagrams_of t held.frames_per_datagram frames)
 sent_all t start now after held frames some few waits went pending =
     let is = pending.is_out in
     let waiting = pending.waiting in
-    let list : datagrams_of t held.pack frames ≡ datagrams_of t held.pack pending.out ++ held.bytes ∷ [] =
-    ap (datagrams_of t held.pack) is.parts
-    ∙ datagrams-append t held.pack is.count pending.out waiting some is.whole
-    ∙ ap (λ l. datagrams_of t held.pack pending.out ++ l) (datagrams-last t held.pack waiting (omega (arith, pending.count, waits)) (omega (arith, pending.count, few)) ∙ ap (λ d. d ∷ []) (sym pending.bytes)) in
+    let list : datagrams_of t held.frames_per_datagram frames ≡ datagrams_of t held.frames_per_datagram pending.out ++ held.bytes ∷ [] =
+    ap (datagrams_of t held.frames_per_datagram) is.parts
+    ∙ datagrams-append t held.frames_per_datagram is.count pending.out waiting some is.whole
+    ∙ ap (λ l. datagrams_of t held.frames_per_datagram pending.out ++ l) (datagrams-last t held.frames_per_datagram waiting (omega (arith, pending.count, waits)) (omega (arith, pending.count, few)) ∙ ap (λ d. d ∷ []) (sym pending.bytes)) in
     went ∙ ap (λ s. append_datagrams s (held.bytes ∷ [])) pending.sent
-    ∙ append_datagrams-append start.sends (datagrams_of t held.pack pending.out) (held.bytes ∷ [])
+    ∙ append_datagrams-append start.sends (datagrams_of t held.frames_per_datagram pending.out) (held.bytes ∷ [])
     ∙ ap (append_datagrams start.sends) (sym list)
 
 none_left : {X : Type 0} (xs : List X) → length xs ≡ 0 → xs ≡ []
@@ -197,15 +197,15 @@ none_left (x ∷ xs) none = absurd (omega (arith, none))
 
 -- none waited
 pub sent_all-none : (t : TicketFields) (start now : OutletTold) (held : DatagramState) (frames : List FrameValue)
-    → held.frames ≡ 0 → IsPending t (change start now) held frames → now.sends ≡ append_datagrams start.sends (datagrams_of t held.pack frames)
+    → held.frames ≡ 0 → IsPending t (change start now) held frames → now.sends ≡ append_datagrams start.sends (datagrams_of t held.frames_per_datagram frames)
 sent_all-none t start now held frames none pending =
     let is = pending.is_out in
     let empty : pending.waiting ≡ [] = none_left pending.waiting (omega (arith, pending.count, none)) in
-    pending.sent ∙ ap (λ l. append_datagrams start.sends (datagrams_of t held.pack l)) (sym (is.parts ∙ ap (λ l. pending.out ++ l) empty ∙ append-nil pending.out))
+    pending.sent ∙ ap (λ l. append_datagrams start.sends (datagrams_of t held.frames_per_datagram l)) (sym (is.parts ∙ ap (λ l. pending.out ++ l) empty ∙ append-nil pending.out))
 
 -- their send failed
 pub IsCut-last : (t : TicketFields) (start now after : OutletTold) (held : DatagramState) (frames : List FrameValue)
-    → 0 < held.frames → after.sends ≡ now.sends ++ Failed ∷ [] → IsPending t (change start now) held frames → IsCut t held.pack (change start after) frames
+    → 0 < held.frames → after.sends ≡ now.sends ++ Failed ∷ [] → IsPending t (change start now) held frames → IsCut t held.frames_per_datagram (change start after) frames
 IsCut-last t start now after held frames waits failed pending =
     let is = pending.is_out in record {
       out = pending.out;

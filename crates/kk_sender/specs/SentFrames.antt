@@ -41,11 +41,11 @@ capture_frames t file = data_frames (codeword_of t file) (generations t) ++ End 
 unfoldable pub packed : TicketFields → List ℕ → List ℕ
 packed t file = text_of t (capture_frames t file)
 
--- the frames in datagrams of `pack`, in order, the last of which may have fewer
+-- the frames in datagrams of so many, in order, the last of which may have fewer
 unfoldable pub datagrams_of : TicketFields → ℕ → List FrameValue → List (List ℕ)
-datagrams_of t pack frames = map (text_of t) (first_chunks pack (div_ceil (length frames) pack) frames)
+datagrams_of t frames_per_datagram frames = map (text_of t) (first_chunks frames_per_datagram (div_ceil (length frames) frames_per_datagram) frames)
 
--- the sender's list: the rows of all generations in datagrams of `pack` frames, and END in one of its own
+-- the sender's list: the rows of all generations in datagrams of so many frames, and END in one of its own
 abbrev pub sent_datagrams : TicketFields → List ℕ → ℕ → ℕ → (ℕ → ℕ) → List (List ℕ)
-sent_datagrams t file extra pack word =
-    datagrams_of t pack (data_frames (sent_rows t file extra word) (generations t)) ++ frame_text t End ∷ []
+sent_datagrams t file extra frames_per_datagram word =
+    datagrams_of t frames_per_datagram (data_frames (sent_rows t file extra word) (generations t)) ++ frame_text t End ∷ []

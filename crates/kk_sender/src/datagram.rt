@@ -19,7 +19,7 @@ use std::marker::Model;
 /// of those that wait.
 #[derive(Drop)]
 pub(crate) struct Datagram {
-    pack: usize,
+    frames_per_datagram: usize,
     frames: usize,
     bytes: ArrayVec<u8, MAX_DATAGRAM_BYTES>,
 }
@@ -32,20 +32,20 @@ impl Model for Datagram {
 
     ghost Value = { DatagramState };
 
-    ghost view = { λ d. record { pack = d.pack; frames = d.frames; bytes = d.bytes.items } };
+    ghost view = { λ d. record { frames_per_datagram = d.frames_per_datagram; frames = d.frames; bytes = d.bytes.items } };
 
-    ghost invariant = { λ d. (d.frames < d.pack) × (d.pack ≤ MAX_DATAGRAM_FRAMES) × (length d.bytes.items ≡ FRAME_BYTES * d.frames) };
+    ghost invariant = { λ d. (d.frames < d.frames_per_datagram) × (d.frames_per_datagram ≤ MAX_DATAGRAM_FRAMES) × (length d.bytes.items ≡ FRAME_BYTES * d.frames) };
 }
 
 impl Datagram {
-    /// A datagram of `pack` frames, of which none is there yet.
-    pub(crate) fn new(pack: u32) -> Datagram
-        requires some { 1 ≤ pack }
-        requires few { pack ≤ MAX_DATAGRAM_FRAMES }
-        ensures { result ≡ record { pack = pack; frames = 0; bytes = [] } }
+    /// A datagram of `frames_per_datagram` frames, of which none is there yet.
+    pub(crate) fn new(frames_per_datagram: u32) -> Datagram
+        requires some { 1 ≤ frames_per_datagram }
+        requires few { frames_per_datagram ≤ MAX_DATAGRAM_FRAMES }
+        ensures { result ≡ record { frames_per_datagram = frames_per_datagram; frames = 0; bytes = [] } }
     {
         Datagram {
-            pack: pack as usize,
+            frames_per_datagram: frames_per_datagram as usize,
             frames: 0,
             bytes: ArrayVec::new(),
         }
@@ -64,14 +64,14 @@ impl Datagram {
             → IsPending ticket.now (change start (O.told outlet.new)) self.new (frames ++ value frame.now ∷ [])) }
         ensures cut { OnErr result ((start : OutletTold) (frames : List FrameValue)
             → IsPending ticket.now (change start (O.told outlet.old)) self.old frames
-            → IsCut ticket.now self.old.pack (change start (O.told outlet.new)) (frames ++ value frame.now ∷ [])) }
+            → IsCut ticket.now self.old.frames_per_datagram (change start (O.told outlet.new)) (frames ++ value frame.now ∷ [])) }
         ensures cause { HasCause (O.told outlet.old).faults (O.told outlet.new).faults result }
-        ensures pack { self.new.pack ≡ self.old.pack }
+        ensures frames_per_datagram { self.new.frames_per_datagram ≡ self.old.frames_per_datagram }
     {
         let text = frame_bytes(frame, ticket);
         self.bytes.try_extend_from_slice(&text).unwrap();
         self.frames += 1;
-        if self.frames < self.pack {
+        if self.frames < self.frames_per_datagram {
             return Ok(());
         }
         let sent = outlet.send(self.bytes.as_slice());
@@ -84,10 +84,10 @@ impl Datagram {
     pub(crate) fn finish<O: Outlet>(self, outlet: &mut O) -> Result<(), Failed>
         ensures all { OnOk result ((start : OutletTold) (frames : List FrameValue) (t : TicketFields)
             → IsPending t (change start (O.told outlet.old)) self frames
-            → (O.told outlet.new).sends ≡ append_datagrams start.sends (datagrams_of t self.pack frames)) }
+            → (O.told outlet.new).sends ≡ append_datagrams start.sends (datagrams_of t self.frames_per_datagram frames)) }
         ensures cut { OnErr result ((start : OutletTold) (frames : List FrameValue) (t : TicketFields)
             → IsPending t (change start (O.told outlet.old)) self frames
-            → IsCut t self.pack (change start (O.told outlet.new)) frames) }
+            → IsCut t self.frames_per_datagram (change start (O.told outlet.new)) frames) }
         ensures cause { HasCause (O.told outlet.old).faults (O.told outlet.new).faults result }
     {
         if self.frames == 0 {

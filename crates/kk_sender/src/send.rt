@@ -15,7 +15,7 @@ ghost use Rattle.kk_sender.specs.LengthRule.{wrong_length, ReadsToLength, FailsW
 ghost use Rattle.kk_sender.specs.Sending.{IsPending, IsCut};
 
 use crate::datagram::Datagram;
-use crate::rows::{MAX_EXTRA, SentRows};
+use crate::rows::{MAX_EXTRA, sent_rows};
 use crate::{SendFault, read_file, room_for_file};
 use kk_assemble::cut;
 use kk_code::{Encoder, Ticket};
@@ -35,7 +35,7 @@ pub struct Sent {
 }
 
 /// Sends a file: per generation the rows of its codeword, and `extra` combinations of them by the words of the generator,
-/// as frames in datagrams of `pack`, across generations; and then END in a datagram of its own.
+/// as frames in datagrams of `frames_per_datagram`, across generations; and then END in a datagram of its own.
 ///
 /// The whole file is read before anything is sent, and all memory is taken before the first read.
 pub fn send_all<S: Source, R: Rng, O: Outlet>(
@@ -44,12 +44,12 @@ pub fn send_all<S: Source, R: Rng, O: Outlet>(
     source: &mut S,
     rng: &mut R,
     extra: u32,
-    pack: u32,
+    frames_per_datagram: u32,
     outlet: &mut O,
 ) -> Result<Sent, SendFault>
     requires extra { extra ≤ MAX_EXTRA }
-    requires some { 1 ≤ pack }
-    requires pack { pack ≤ MAX_DATAGRAM_FRAMES }
+    requires some { 1 ≤ frames_per_datagram }
+    requires few { frames_per_datagram ≤ MAX_DATAGRAM_FRAMES }
 
     // Which answer comes: `Alloc` is want of memory.
     ensures wrong_length { (got : ℕ) (more : Bool) → (result ≡ Err SendFault.Alloc → ⊥) → (result ≡ Err SendFault.Read → ⊥)
@@ -69,13 +69,13 @@ pub fn send_all<S: Source, R: Rng, O: Outlet>(
 
     // What was sent.
     ensures sent { OnOk result ((O.told outlet.new).sends ≡ append_datagrams (O.told outlet.old).sends
-        (sent_datagrams ticket.now (bytes_read (change (S.told source.old) (S.told source.new))) extra pack (word_at (R.stream rng.old)))) }
+        (sent_datagrams ticket.now (bytes_read (change (S.told source.old) (S.told source.new))) extra frames_per_datagram (word_at (R.stream rng.old)))) }
     ensures frames { IfOk result (λ sent. sent.frames ≡ length (data_frames
         (sent_rows ticket.now (bytes_read (change (S.told source.old) (S.told source.new))) extra (word_at (R.stream rng.old))) (generations ticket.now)) + 1) }
     ensures datagrams { IfOk result (λ sent. sent.datagrams ≡ length
-        (sent_datagrams ticket.now (bytes_read (change (S.told source.old) (S.told source.new))) extra pack (word_at (R.stream rng.old)))) }
+        (sent_datagrams ticket.now (bytes_read (change (S.told source.old) (S.told source.new))) extra frames_per_datagram (word_at (R.stream rng.old)))) }
     ensures prefix { result ≡ Err SendFault.Outlet → IsCutShort (change (O.told outlet.old) (O.told outlet.new))
-        (sent_datagrams ticket.now (bytes_read (change (S.told source.old) (S.told source.new))) extra pack (word_at (R.stream rng.old))) }
+        (sent_datagrams ticket.now (bytes_read (change (S.told source.old) (S.told source.new))) extra frames_per_datagram (word_at (R.stream rng.old))) }
     ensures unsent { OnErr result ((result ≡ Err SendFault.Outlet → ⊥) → outlet.new ≡ outlet.old) }
 
     // What was drawn of the generator.
@@ -90,25 +90,33 @@ pub fn send_all<S: Source, R: Rng, O: Outlet>(
     };
     read_file(source, &mut room)?;
     let file = &room[..ticket.length() as usize];
-    let sent = send_file(ticket, &encoder, file, rng, extra, pack, outlet);
+    let sent = send_file(
+        ticket,
+        &encoder,
+        file,
+        rng,
+        extra,
+        frames_per_datagram,
+        outlet,
+    );
     match sent {
-        Ok(()) => Ok(Sent::of(ticket, extra, pack)),
+        Ok(()) => Ok(Sent::of(ticket, extra, frames_per_datagram)),
         Err(_) => Err(SendFault::Outlet),
     }
 }
 
 impl Sent {
     /// How much is sent of a file.
-    fn of(ticket: &Ticket, extra: u32, pack: u32) -> Sent
+    fn of(ticket: &Ticket, extra: u32, frames_per_datagram: u32) -> Sent
         requires extra { extra ≤ MAX_EXTRA }
-        requires some { 1 ≤ pack }
+        requires some { 1 ≤ frames_per_datagram }
         ensures frames { result.frames ≡ generations ticket.now * (ticket.now.code.l + extra) + 1 }
-        ensures datagrams { result.datagrams ≡ div_ceil (generations ticket.now * (ticket.now.code.l + extra)) pack + 1 }
+        ensures datagrams { result.datagrams ≡ div_ceil (generations ticket.now * (ticket.now.code.l + extra)) frames_per_datagram + 1 }
     {
         let frames = data_frames(ticket, extra);
         Sent {
             frames: frames + 1,
-            datagrams: frames.div_ceil(u64::from(pack)) + 1,
+            datagrams: frames.div_ceil(u64::from(frames_per_datagram)) + 1,
         }
     }
 }
@@ -137,26 +145,26 @@ fn send_file<R: Rng, O: Outlet>(
     file: &[u8],
     rng: &mut R,
     extra: u32,
-    pack: u32,
+    frames_per_datagram: u32,
     outlet: &mut O,
 ) -> Result<(), Failed>
     requires encoder { encoder.now ≡ ticket.now.code }
     requires whole { length file.now ≡ ticket.now.length }
     requires extra { extra ≤ MAX_EXTRA }
-    requires some { 1 ≤ pack }
-    requires pack { pack ≤ MAX_DATAGRAM_FRAMES }
+    requires some { 1 ≤ frames_per_datagram }
+    requires few { frames_per_datagram ≤ MAX_DATAGRAM_FRAMES }
     ensures sent { OnOk result ((O.told outlet.new).sends ≡ append_datagrams (O.told outlet.old).sends
-        (sent_datagrams ticket.now file.now extra pack (word_at (R.stream rng.old)))) }
+        (sent_datagrams ticket.now file.now extra frames_per_datagram (word_at (R.stream rng.old)))) }
     ensures prefix { OnErr result (IsCutShort (change (O.told outlet.old) (O.told outlet.new))
-        (sent_datagrams ticket.now file.now extra pack (word_at (R.stream rng.old)))) }
+        (sent_datagrams ticket.now file.now extra frames_per_datagram (word_at (R.stream rng.old)))) }
     ensures cause { HasCause (O.told outlet.old).faults (O.told outlet.new).faults result }
     ensures words { OnOk result (R.stream rng.new ≡ after_words (generations ticket.now * extra) (R.stream rng.old)) }
 {
-    let mut datagram = Datagram::new(pack);
+    let mut datagram = Datagram::new(frames_per_datagram);
     for generation in 0..ticket.generations() {
         let message = cut(file, ticket, generation);
         let codeword = encoder.encode(&message);
-        let rows = SentRows::new(&codeword, extra, rng);
+        let rows = sent_rows(&codeword, extra, rng);
         push_rows(rows.as_slice(), generation, ticket, &mut datagram, outlet)?;
     }
     datagram.finish(outlet)?;
@@ -178,9 +186,9 @@ fn push_rows<O: Outlet>(
         → IsPending ticket.now (change start (O.told outlet.new)) datagram.new (frames ++ vectors generation (numbers rows.now))) }
     ensures cut { OnErr result ((start : OutletTold) (frames : List FrameValue)
         → IsPending ticket.now (change start (O.told outlet.old)) datagram.old frames
-        → IsCut ticket.now datagram.old.pack (change start (O.told outlet.new)) (frames ++ vectors generation (numbers rows.now))) }
+        → IsCut ticket.now datagram.old.frames_per_datagram (change start (O.told outlet.new)) (frames ++ vectors generation (numbers rows.now))) }
     ensures cause { HasCause (O.told outlet.old).faults (O.told outlet.new).faults result }
-    ensures pack { datagram.new.pack ≡ datagram.old.pack }
+    ensures frames_per_datagram { datagram.new.frames_per_datagram ≡ datagram.old.frames_per_datagram }
 {
     for row in rows {
         let frame = Frame::Vector {

@@ -35,9 +35,9 @@ returns-in_err-push-clause-cut g c =
     let p = err_from_is_err_and c.from_residual.result c.from_residual.ensures.1 in
     rw p.1 (λ start frames pending.
     let cut = c.in_err-push.ensures.cut start (frames ++ vectors n (take i (numbers rows))) (loop.invariant.pending start frames pending) in
-    let all = IsCut-more t loop.datagram.pack (change start (told c.push.new.outlet)) _ (vectors n (drop (i + 1) (numbers rows))) cut in
-    subst (λ pack. IsCut t pack (change start (told c.push.new.outlet)) (frames ++ vectors n (numbers rows))) loop.invariant.pack
-    (subst (IsCut t loop.datagram.pack (change start (told c.push.new.outlet))) (sym (vectors-cut frames n rows i no_row c.loop-row-test.true)) all))
+    let all = IsCut-more t loop.datagram.frames_per_datagram (change start (told c.push.new.outlet)) _ (vectors n (drop (i + 1) (numbers rows))) cut in
+    subst (λ pack. IsCut t pack (change start (told c.push.new.outlet)) (frames ++ vectors n (numbers rows))) loop.invariant.frames_per_datagram
+    (subst (IsCut t loop.datagram.frames_per_datagram (change start (told c.push.new.outlet))) (sym (vectors-cut frames n rows i no_row c.loop-row-test.true)) all))
 
 pub loop-row-preserved : goal.loop-row-preserved
 loop-row-preserved g c =
@@ -55,5 +55,5 @@ loop-row-preserved g c =
           (append_assoc frames front row ∙ ap (λ (l : List FrameValue). frames ++ l) (sym (vectors-more n rows i no_row c.loop-row-test.true)))
           (c.in_ok-push.ensures.pending start (frames ++ front) (loop.invariant.pending start frames pending));
       same = c.in_ok-push.ensures.cause.kept ∙ loop.invariant.same;
-      pack = c.in_ok-push.ensures.pack ∙ loop.invariant.pack;
+      frames_per_datagram = c.in_ok-push.ensures.frames_per_datagram ∙ loop.invariant.frames_per_datagram;
     }

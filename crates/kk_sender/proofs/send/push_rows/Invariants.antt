@@ -12,5 +12,5 @@ invariant-loop-row g l = record {
   pending : (start : OutletTold) (frames : List FrameValue) → IsPending l.ticket (change start (g.O.Outlet.told l.fn.outlet)) l.fn.datagram frames
       → IsPending l.ticket (change start (g.O.Outlet.told l.outlet)) l.datagram (frames ++ vectors l.generation (take l.row-index (numbers l.rows)));
   same : (g.O.Outlet.told l.outlet).faults ≡ (g.O.Outlet.told l.fn.outlet).faults;
-  pack : l.datagram.pack ≡ l.fn.datagram.pack;
+  frames_per_datagram : l.datagram.frames_per_datagram ≡ l.fn.datagram.frames_per_datagram;
 }

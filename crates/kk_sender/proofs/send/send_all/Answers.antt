@@ -22,8 +22,8 @@ returns-in-Ok-sent-clause-sent g c =
     let len : length c.deref_mut.result.now - 1 ≡ t.length = omega (arith, c.deref_mut.ensures.len, c.in-Ok.ensures) in
     let file = the_file t.length c.in-Ok.room.len c.read_file.new.room c.in-Ok.room.items c.deref.result.now _ c.deref.ensures.value c.in-Ok.ensures (omega (arith, c.read_file.auto.room, c.deref_mut.ensures.len, c.in-Ok.ensures)) (rw len at c.in_ok-read_file.ensures.file) in
     c.in-Ok-sent.ensures.sent
-    ∙ ap (λ n. append_datagrams (told c.args.outlet.now).sends (sent_datagrams t (take n c.deref.result.now) c.args.extra c.args.pack word)) c.length.ensures.length
-    ∙ ap (λ f. append_datagrams (told c.args.outlet.now).sends (sent_datagrams t f c.args.extra c.args.pack word)) file
+    ∙ ap (λ n. append_datagrams (told c.args.outlet.now).sends (sent_datagrams t (take n c.deref.result.now) c.args.extra c.args.frames_per_datagram word)) c.length.ensures.length
+    ∙ ap (λ f. append_datagrams (told c.args.outlet.now).sends (sent_datagrams t f c.args.extra c.args.frames_per_datagram word)) file
 
 pub returns-in-Ok-sent-clause-frames : goal.returns-in-Ok-sent-clause-frames
 returns-in-Ok-sent-clause-frames g c =
@@ -31,7 +31,7 @@ returns-in-Ok-sent-clause-frames g c =
 
 pub returns-in-Ok-sent-clause-datagrams : goal.returns-in-Ok-sent-clause-datagrams
 returns-in-Ok-sent-clause-datagrams g c =
-    c.of.ensures.datagrams ∙ sym (length-sent_datagrams c.args.ticket.now _ c.args.extra c.args.pack (word_at (g.R.Rng.stream c.args.rng.now)))
+    c.of.ensures.datagrams ∙ sym (length-sent_datagrams c.args.ticket.now _ c.args.extra c.args.frames_per_datagram (word_at (g.R.Rng.stream c.args.rng.now)))
 
 pub returns-clause-prefix : goal.returns-clause-prefix
 returns-clause-prefix g c = λ _.
@@ -40,5 +40,5 @@ returns-clause-prefix g c = λ _.
     let word = word_at (g.R.Rng.stream c.args.rng.now) in
     let len : length c.deref_mut.result.now - 1 ≡ t.length = omega (arith, c.deref_mut.ensures.len, c.in-Ok.ensures) in
     let file = the_file t.length c.in-Ok.room.len c.read_file.new.room c.in-Ok.room.items c.deref.result.now _ c.deref.ensures.value c.in-Ok.ensures (omega (arith, c.read_file.auto.room, c.deref_mut.ensures.len, c.in-Ok.ensures)) (rw len at c.in_ok-read_file.ensures.file) in
-    subst (λ f. IsCutShort (change (told c.args.outlet.now) (told c.send_file-sent.new.outlet)) (sent_datagrams t f c.args.extra c.args.pack word))
+    subst (λ f. IsCutShort (change (told c.args.outlet.now) (told c.send_file-sent.new.outlet)) (sent_datagrams t f c.args.extra c.args.frames_per_datagram word))
     (ap (λ n. take n c.deref.result.now) c.length.ensures.length ∙ file) c.in-Err.ensures.prefix

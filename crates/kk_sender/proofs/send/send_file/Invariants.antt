@@ -11,5 +11,5 @@ invariant-loop-generation g l = record {
       (data_frames (sent_rows l.ticket l.file l.extra (word_at (g.R.Rng.stream l.fn.rng))) l.generation);
   stream : g.R.Rng.stream l.rng ≡ after_words (l.generation * l.extra) (g.R.Rng.stream l.fn.rng);
   same : (g.O.Outlet.told l.outlet).faults ≡ (g.O.Outlet.told l.fn.outlet).faults;
-  pack : l.datagram.pack ≡ l.pack;
+  frames_per_datagram : l.datagram.frames_per_datagram ≡ l.frames_per_datagram;
 }

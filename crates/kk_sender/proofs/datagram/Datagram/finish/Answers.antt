@@ -7,7 +7,7 @@ use Rattle.kk_sender.proofs.datagram.Datagram.finish.Goals as goal
 pub returns-clause-all : goal.returns-clause-all
 returns-clause-all g c =
     let told = g.O.Outlet.told in
-    let pack = ap (λ (s : DatagramState). s.pack) c.self.view_is in
+    let pack = ap (λ (s : DatagramState). s.frames_per_datagram) c.self.view_is in
     let frames = ap (λ (s : DatagramState). s.frames) c.self.view_is in
     let bytes = c.as_slice.ensures.value ∙ ap (λ (s : DatagramState). s.bytes) c.self.view_is in
     OnOk-then _ _ c.send.result c.send.ensures.sends.sent (λ went start all t pending.

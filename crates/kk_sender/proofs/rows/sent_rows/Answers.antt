@@ -3,13 +3,13 @@ use Rattle.kk_rows.specs.Combination.{combination}
 use Rattle.kk_outside.specs.Generator.{after_words, word_at}
 use Rattle.kk_sender.specs.SentFrames.{with_combinations}
 use Rattle.kk_sender.proofs.Frames.{with_combinations-none, with_combinations-more, drawn}
-use Rattle.kk_sender.proofs.rows.SentRows.new.Goals as goal
+use Rattle.kk_sender.proofs.rows.sent_rows.Goals as goal
 
 pub loop-init : goal.loop-init
 loop-init g c = record {
-  rows = λ start first is. c.of-rows.ensures.rows ∙ sym (with_combinations-none (word_at start) c.args.codeword.now first);
+  rows = λ start first is. c.plain_rows-rows.ensures.rows ∙ sym (with_combinations-none (word_at start) c.args.codeword.now first);
   stream = λ start first is. is ∙ ap (λ (n : ℕ). after_words n start) (omega arith);
-  few = omega (arith, c.of-rows.ensures.few);
+  few = omega (arith, c.plain_rows-rows.ensures.few);
 }
 
 pub loop-preserved : goal.loop-preserved
