@@ -4,7 +4,7 @@ use Rattle.std.proofs.Math.Nat.{mod-lt, mul_assoc, mul_comm, one-mul, add_comm, 
 use Rattle.std.proofs.Math.Pow.{pow_pos, pow_mono, shr_lt}
 use Rattle.std.proofs.lemmas.Nat.{pow-add}
 use Rattle.std.specs.Int.Bits.{xor_comm, xor_assoc}
-use Rattle.kk_field.proofs.Sums.{sums, xor_shl, by_digits}
+use Rattle.kk_field.proofs.Sums.{sums, xor_shl}
 use Rattle.kk_field.proofs.Remainders.{HasDegree-modulus, xor-modulus, remainder_by, remainder-product_left}
 use Rattle.kk_field.proofs.Residues.{one_small, residue-below, residue-small, residue-xor, square-xor_residues, field_product-one}
 use Rattle.kk_field.proofs.Products.{zero-product, product-pow, product-one, product-double, double-product}
@@ -72,34 +72,6 @@ in_byte n w h =
 
 times_two : (w p : ℕ) → w * p * 2 ≡ w * 2 * p
 times_two w p = mul_assoc w p 2 ∙ ap (λ x. w * x) (mul_comm p 2) ∙ sym (mul_assoc w 2 p)
-
-half_byte : (n : ℕ) → byte_at (n - n % 256 + n % 256 / 2) * 2 ≡ n % 256 / 2 * 2 * 2 ^ (8 * (n / 256))
-half_byte n =
-    let small : n % 256 / 2 < 256 = omega arith in
-    ap (λ x. x * 2) (in_byte n (n % 256 / 2) small) ∙ times_two (n % 256 / 2) (2 ^ (8 * (n / 256)))
-
-pub byte_at-even : (n : ℕ) → n % 256 % 2 ≡ 0 → byte_at (n - n % 256 + n % 256 / 2) * 2 ≡ byte_at n
-byte_at-even n even =
-    let twice : n % 256 / 2 * 2 ≡ n % 256 = omega (arith, even) in
-    half_byte n ∙ ap (λ x. x * 2 ^ (8 * (n / 256))) twice
-
-pub byte_at-odd : (n : ℕ) → n % 256 % 2 ≡ 1 → bit_xor (byte_at (n - n % 256 + n % 256 / 2) * 2) (byte_at (n - n % 256 + 1)) ≡ byte_at n
-byte_at-odd n odd =
-    let s = 8 * (n / 256) in
-    ap (λ x. bit_xor x (byte_at (n - n % 256 + 1))) (half_byte n)
-    ∙ ap (bit_xor (n % 256 / 2 * 2 * 2 ^ s)) (in_byte n 1 (omega arith))
-    ∙ sym (xor_shl (n % 256 / 2 * 2) 1 s)
-    ∙ ap (λ d. bit_xor (n % 256 / 2 * 2) d * 2 ^ s) (sym odd)
-    ∙ ap (λ x. x * 2 ^ s) (by_digits (n % 256))
-
-pub byte_at-next : (n : ℕ) → 129 ≤ n → n % 256 ≡ 1 → byte_at (n - 129) * 2 ≡ byte_at n
-byte_at-next n more one =
-    let i = n / 256 - 1 in
-    let place : n - 129 ≡ 256 * i + 128 = omega (arith, more, one) in
-    let up : 8 * i + 8 ≡ 8 * (n / 256) = omega (arith, more, one) in
-    ap (λ k. byte_at k * 2) place ∙ ap (λ x. x * 2) (byte_at-entry i 128 (omega arith))
-    ∙ times_two 128 (2 ^ (8 * i)) ∙ mul_comm 256 (2 ^ (8 * i)) ∙ sym (pow-add 2 (8 * i) 8) ∙ ap (λ n. 2 ^ n) up
-    ∙ sym (one-mul (2 ^ (8 * (n / 256)))) ∙ ap (λ w. w * 2 ^ (8 * (n / 256))) (sym one)
 
 -- ---- the two maps
 

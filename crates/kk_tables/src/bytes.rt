@@ -59,35 +59,20 @@ fn raised(ring: &Ring, a: u64, times: u32) -> u64
     power
 }
 
-/// Entry n of [`make_table`]'s table, from those before it.
-///
-/// In each byte the image of 1 is X^times times that of the highest bit of the byte below, the image of an even value is
-/// X^times times that of its half, and the image of an odd value is that of the even one below it plus that of 1.
-fn entry(table: &[u64], ring: &Ring, one: u64, times: u32, n: usize) -> u64
+/// The images of 2^0, 2^1, .. 2^63 under the additive map that takes 1 to `one`, and twice a number to X^times times its
+/// image.
+fn units(ring: &Ring, one: u64, times: u32) -> [u64; 64]
     requires modulus { IsModulus ring.now }
-    requires long { length table.now ≡ ENTRIES }
-    requires within { n < ENTRIES }
     requires one_below { one < 2 ^ ring.now.degree }
-    requires before_below { (k : ℕ) → k < n → slice_index table.now k < 2 ^ ring.now.degree }
-    ensures value { (image : ℕ → ℕ) → IsAdditive image → DoublesBy ring.now times image → image 1 ≡ one
-        → IsTableUpTo image n table.now → result ≡ image (byte_at n) }
-    ensures below { result < 2 ^ ring.now.degree }
+    ensures { (image : ℕ → ℕ) → DoublesBy ring.now times image → image 1 ≡ one → HasUnits image result }
 {
-    let v = n % 256;
-    if v == 0 {
-        return 0;
+    let mut units = [0; 64];
+    let mut unit = one;
+    for j in 0..64 {
+        units[j] = unit;
+        unit = raised(ring, unit, times);
     }
-    if n == 1 {
-        return one;
-    }
-    if v == 1 {
-        return raised(ring, table[n - 129], times);
-    }
-    let even = raised(ring, table[n - v + v / 2], times);
-    if v % 2 == 0 {
-        return even;
-    }
-    even ^ table[n - v + 1]
+    units
 }
 
 /// Makes the table of the additive map that takes 1 to `one`, and twice a number to X^times times its image.
@@ -99,9 +84,7 @@ pub(crate) fn make_table(table: &mut [u64], ring: &Ring, one: u64, times: u32)
     ensures value { (image : ℕ → ℕ) → IsAdditive image → DoublesBy ring.now times image → image 1 ≡ one
         → IsTableOf image table.new }
 {
-    for n in 0..ENTRIES {
-        table[n] = entry(table, ring, one, times, n);
-    }
+    make_table_of(table, &units(ring, one, times));
 }
 
 /// Entry n of [`make_table_of`]'s table, from those before it: the image of the highest bit of the byte, and that of the
