@@ -1,7 +1,7 @@
 //! The bits of messages, read one after another.
 ghost use Rattle.std.specs.Prelude.{◌≡◌, ◌+◌, ◌*◌, ◌<◌, ◌^◌, [], All, IfSome, slice_index};
 ghost use Rattle.std.specs.List.{slice_index_or};
-ghost use Rattle.kk_code.specs.Codeword.{IsMessage};
+ghost use Rattle.kk_code.specs.Codeword.{IsInRange, IsMessage};
 ghost use Rattle.kk_assemble.specs.FileBits.{message_bit, number_from};
 ghost use Rattle.kk_assemble.specs.Messages.{messages_or_empty};
 
@@ -75,10 +75,10 @@ impl<'a> Model for MessageBits<'a> {
 impl<'a> MessageBits<'a> {
     /// The bits of the messages from the first on.
     pub(crate) fn new(answers: &'a [Option<Message>], code: Code) -> Self
-        requires { All (λ answer. IfSome answer (IsMessage code)) answers.now }
+        requires in_range { IsInRange code }
+        requires messages { All (λ answer. IfSome answer (IsMessage code)) answers.now }
         ensures { result ≡ record { code = code; messages = messages_or_empty answers.now; at = 0 } }
     {
-        let _k = code.k();
         MessageBits {
             answers,
             code,

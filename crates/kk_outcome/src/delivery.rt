@@ -3,6 +3,7 @@ ghost use Rattle.std.specs.Prelude.{◌≡◌, [], Some, All, IfOk, IfSome, leng
 ghost use Rattle.kk_outside.specs.Change.{change};
 ghost use Rattle.kk_code.specs.Codeword.{IsMessage};
 ghost use Rattle.kk_code.specs.Ticket.{generations};
+ghost use Rattle.kk_code.specs.TicketText.{IsTicket};
 ghost use Rattle.kk_outcome.specs.Answers.{file_of};
 ghost use Rattle.kk_report.specs.Command.{RanThrough};
 ghost use Rattle.kk_outcome.specs.Delivery.{IsDelivered};
@@ -10,7 +11,7 @@ ghost use Rattle.kk_report.specs.Status.{code_of};
 
 use kk_assemble::join;
 use kk_code::{Message, Ticket};
-use kk_outside::{Alloc, Sink, write_all};
+use kk_outside::{Alloc, Sink, write_all, zeroed};
 use kk_report::Status;
 use std::alloc::Global;
 
@@ -39,9 +40,8 @@ pub fn deliver<K: Sink>(
 
 /// Room for the bytes of the file.
 pub fn room_of(alloc: Global, ticket: &Ticket) -> Result<Vec<u8>, Alloc>
-    ensures { IfOk result (λ bytes. vec_len bytes ≡ ticket.now.length) }
+    ensures len { IfOk result (λ bytes. vec_len bytes ≡ ticket.now.length) }
+    ensures ticket { IsTicket ticket.now }
 {
-    let mut bytes = Vec::new(alloc);
-    bytes.resize(ticket.length() as usize, 0)?;
-    Ok(bytes)
+    zeroed(alloc, ticket.length() as usize)
 }

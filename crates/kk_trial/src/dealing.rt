@@ -8,7 +8,7 @@ ghost use Rattle.kk_frame.specs.FrameView.{value, pairs};
 ghost use Rattle.kk_trial.specs.Trial.{dealt, trial_events};
 
 use kk_code::Ticket;
-use kk_frame::{FRAME_BYTES, Frame, write_frame};
+use kk_frame::{Frame, frame_bytes};
 use kk_outside::{Alloc, Bytes, Event, MemoryGate};
 use kk_rows::Row;
 use std::alloc::Global;
@@ -58,7 +58,6 @@ fn datagram(alloc: Global, ticket: &Ticket, generation: u32, row: Row) -> Result
     requires { IsFrame ticket.now (Vector generation row.0) }
     ensures { IfOk result (λ event. event ≡ Datagram (frame_text ticket.now (Vector generation row.0))) }
 {
-    let mut text = [0; FRAME_BYTES];
-    write_frame(&Frame::Vector { generation, row }, ticket, &mut text);
-    Ok(Event::Datagram(Bytes::new(text.to_vec(alloc)?)))
+    let bytes = frame_bytes(&Frame::Vector { generation, row }, ticket);
+    Ok(Event::Datagram(Bytes::new(bytes.to_vec(alloc)?)))
 }

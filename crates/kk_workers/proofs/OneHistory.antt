@@ -17,6 +17,7 @@ use Rattle.kk_code.proofs.Enumeration.{answer_is_the_message}
 use Rattle.kk_code.specs.Ticket.{TicketFields, generations}
 use Rattle.kk_frame.specs.declared.frame.TheConstants.{FRAME_BYTES}
 use Rattle.kk_frame.specs.declared.gate_count.GateCount.{GateCount}
+use Rattle.kk_frame.specs.Counting.{no_counts}
 use Rattle.kk_frame.specs.Events.{taken}
 use Rattle.kk_frame.specs.Generation.{rows_of}
 use Rattle.kk_machine.specs.declared.log.Log.{Log}
@@ -32,7 +33,7 @@ use Rattle.kk_table.specs.Logs.{IsHistoryOf, IsLogs, log_at}
 use Rattle.kk_workers.specs.declared.plan.Plan.{Plan}
 use Rattle.kk_workers.specs.declared.totals.Totals.{Totals}
 use Rattle.kk_workers.specs.Totals.{totals_in, no_totals}
-use Rattle.kk_workers.specs.Worker.{WorkerView, no_counts}
+use Rattle.kk_workers.specs.Worker.{WorkerView}
 use Rattle.kk_workers.specs.WorkerCalls.{all_brought, InsertsFor, AreAnswers}
 use Rattle.kk_workers.specs.WorkerLoop.{AreTotals}
 use Rattle.kk_workers.specs.Runs.{closing_answer}

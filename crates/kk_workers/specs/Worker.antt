@@ -1,7 +1,7 @@
 -- A worker as clauses see it.
 use Rattle.std.specs.Prelude.{ℕ, List, replicate, Option, None}
-use Rattle.kk_frame.specs.declared.gate_count.Refused.{Refused}
 use Rattle.kk_frame.specs.declared.gate_count.GateCount.{GateCount}
+use Rattle.kk_frame.specs.Counting.{no_counts}
 use Rattle.kk_table.specs.Pass.{PassView}
 use Rattle.kk_workers.specs.declared.totals.Totals.{Totals}
 use Rattle.kk_workers.specs.Totals.{no_totals}
@@ -13,14 +13,6 @@ pub record WorkerView (G : Type 0) : Type 0 where
   pub counts : GateCount
   pub totals : Totals
   pub answers : List (Option (Option (List ℕ)))
-
--- the counts of a gate of which no piece was refused
-abbrev pub none_refused : Refused
-none_refused = record { badlength = 0; magic = 0; version = 0; kind = 0; session = 0; generation = 0; row = 0; endrow = 0 }
-
--- the counts of a gate that was not asked
-abbrev pub no_counts : GateCount
-no_counts = record { ended = None; datagrams = 0; frames = 0; refused = none_refused }
 
 -- a worker for so many generations that hasn't worked
 abbrev pub new_worker : {G : Type 0} → ℕ → PassView → G → WorkerView G

@@ -1,12 +1,12 @@
 //! A gate with the pass through which its rows enter the table.
 ghost use Rattle.std.specs.Prelude.{◌≡◌, ℕ, ◌<◌, length, replicate, slice_index_or, None, IfOk, IfErr};
 ghost use Rattle.kk_code.specs.Ticket.{generations};
-ghost use Rattle.kk_workers.specs.Worker.{no_counts, new_worker};
+ghost use Rattle.kk_workers.specs.Worker.{new_worker};
 
 use crate::Totals;
 use crate::inserter::Inserter;
 use kk_code::{Message, Ticket};
-use kk_frame::{GateCount, Refused};
+use kk_frame::GateCount;
 use kk_outside::Gate;
 use kk_rows::Alloc;
 use kk_table::Pass;
@@ -67,27 +67,6 @@ pub(crate) fn answer_at(answers: &Answers, generation: u32) -> Option<Option<Mes
     }
 }
 
-/// The counts of a gate that was not asked.
-fn not_asked() -> GateCount
-    ensures { result ≡ no_counts }
-{
-    GateCount {
-        ended: None,
-        datagrams: 0,
-        frames: 0,
-        refused: Refused {
-            badlength: 0,
-            magic: 0,
-            version: 0,
-            kind: 0,
-            session: 0,
-            generation: 0,
-            row: 0,
-            endrow: 0,
-        },
-    }
-}
-
 impl<G: Gate + Send> Worker<G> {
     /// A worker for the generations of a ticket, which hasn't worked. It takes all its memory here.
     ///
@@ -115,7 +94,7 @@ impl<G: Gate + Send> Worker<G> {
                 answers,
             },
             gate,
-            counts: not_asked(),
+            counts: GateCount::NONE,
         }
     }
 
