@@ -1,16 +1,15 @@
 -- The text of a capture, frame by frame and generation by generation.
-use Rattle.std.proofs.Common.{◌≡◌, ℕ, ◌+◌, ◌*◌, ◌<◌, List, [], ◌∷◌, ◌++◌, length, take, drop, get_or, sym, ap, ◌∙◌, arith, append_assoc, length-append}
+use Rattle.std.proofs.Common.{◌≡◌, ℕ, ◌+◌, ◌<◌, List, [], ◌∷◌, ◌++◌, length, take, drop, get_or, sym, ap, ◌∙◌, arith, append_assoc}
 use Rattle.std.proofs.lemmas.List.{append-nil}
 use Rattle.std.proofs.lemmas.List.Concat.{flat_map-append}
 use Rattle.kk_rows.specs.Rows.{numbers}
 use Rattle.kk_rows.specs.declared.rows.Row.{Row}
 use Rattle.kk_code.specs.Codeword.{Parameters, codeword}
 use Rattle.kk_code.specs.Ticket.{TicketFields, generations}
-use Rattle.kk_code.proofs.Values.{length-codeword}
 use Rattle.kk_assemble.specs.FileBits.{cut}
 use Rattle.kk_frame.specs.Frame.{FrameValue, Vector, End, frame_text}
-use Rattle.kk_sender.specs.SentFrames.{codeword_of, vectors, data_frames, text_of, capture_frames, packed}
-use Rattle.kk_sender.proofs.Frames.{vectors-more, vectors-parts, data_frames-more, data_frames-parts, length-data_frames}
+use Rattle.kk_sender.specs.SentFrames.{codeword_of, vectors, data_frames, text_of, packed}
+use Rattle.kk_sender.proofs.Frames.{vectors-more, vectors-parts, data_frames-more, data_frames-parts}
 
 text-append : (t : TicketFields) (a b : List FrameValue) → text_of t (a ++ b) ≡ text_of t a ++ text_of t b
 text-append t a b = flat_map-append (frame_text t) a b
@@ -72,10 +71,3 @@ packed-cut t file g rows within are =
           ∙ append_assoc front (text_of t parts.0) (frame_text t End)
           ∙ ap (λ l. l ++ (text_of t parts.0 ++ frame_text t End)) (text_to-more t file g rows are),
     )
-
--- ---- how many frames there are
-
-pub length-capture_frames : (t : TicketFields) (file : List ℕ) → length (capture_frames t file) ≡ generations t * t.code.l + 1
-length-capture_frames t file =
-    length-append (data_frames (codeword_of t file) (generations t)) (End ∷ [])
-    ∙ ap (λ n. n + 1) (length-data_frames (codeword_of t file) t.code.l (generations t) (λ g. length-codeword t.code (cut t.code file g)))

@@ -79,6 +79,6 @@ pub record Packs (words : List (List ℕ)) (source : Change SourceTold) (file re
   pub remainder : (order : Order) → order_of pack_form words ≡ Ok order → (status ≡ 8 → ⊥) → (status ≡ 4 → ⊥) → IfSome source.old.left (λ bytes. LeavesAfterLength order.ticket.length bytes source)
   -- What the file's sink holds: the capture of the bytes that were read.
   pub written : (order : Order) → order_of pack_form words ≡ Ok order → RanThrough status → WasGiven (packed order.ticket (bytes_read source)) file
-  -- What the report's sink holds, where the words were not refused.
+  -- What the report's sink holds, where `refusals` doesn't say it.
   pub source_refused : (status ≡ 4) ⊎ (status ≡ 9) → RefusesSource words source status report
   pub reported : (order : Order) → order_of pack_form words ≡ Ok order → RanThrough status → IsConcluded (frames_line order.ticket (bytes_read source)) status file report

@@ -1,13 +1,12 @@
 //! `pack`: a file comes in, and its capture goes out.
-ghost use Rattle.std.specs.Prelude.{◌≡◌, ◌⊎◌, ◌↔◌, ◌+◌, ◌*◌, ◌<◌, ◌++◌, length, codes, decimal};
+ghost use Rattle.std.specs.Prelude.{◌≡◌, ◌⊎◌, ◌↔◌, ◌<◌, ℕ, List, length};
 ghost use Rattle.arrayvec.specs.ArrayString.{array_string_len};
 ghost use Rattle.kk_outside.specs.Causes.{CanCount};
 ghost use Rattle.kk_outside.specs.Change.{change};
 ghost use Rattle.kk_outside.specs.Sink.{SinkFailed, WasGiven};
-ghost use Rattle.kk_code.specs.Ticket.{generations};
 ghost use Rattle.kk_sender.specs.SentFrames.{packed};
 ghost use Rattle.kk_report.specs.Command.{texts, IsRefusalOfWords, RanThrough};
-ghost use Rattle.kk_run_pack.specs.Pack.{Packs, refusal_of};
+ghost use Rattle.kk_run_pack.specs.Pack.{Packs, frames_line, refusal_of};
 
 use crate::packing::write_capture;
 use kk_code::{Encoder, Ticket};
@@ -15,7 +14,7 @@ use kk_forms::{Argument, Form};
 use kk_order::{OrderFault, OrderForm, TicketPlace, refuse_words};
 use kk_outside::{Sink, Source};
 use kk_report::{Line, Refusal, Status, conclude, numbered, refuse};
-use kk_sender::{FileFault, read_file, room_for_file};
+use kk_sender::{FileFault, capture_frames, read_file, room_for_file};
 use std::alloc::Global;
 
 /// The words of `pack`: the ticket.
@@ -82,11 +81,10 @@ fn pack<K: Sink>(ticket: &Ticket, encoder: &Encoder, bytes: &[u8], file: &mut K)
 
 /// The line that tells how many frames the capture has.
 fn frames_line(ticket: &Ticket) -> Line
-    ensures text { result.bytes ≡ codes "frames " ++ decimal (generations ticket.now * ticket.now.code.l + 1) ++ codes "\n" }
+    ensures text { (file : List ℕ) → result.bytes ≡ frames_line ticket.now file }
     ensures short { array_string_len result < 64 }
 {
-    let rows = u64::from(ticket.generations()) * u64::from(ticket.code().l());
-    let mut line = numbered("frames ", rows + 1);
+    let mut line = numbered("frames ", capture_frames(ticket));
     line.push_str("\n");
     line
 }

@@ -13,7 +13,7 @@ ghost use Rattle.kk_report.specs.Block.{Adds};
 
 use kk_assemble::cut;
 use kk_code::{Encoder, Ticket};
-use kk_frame::{FRAME_BYTES, Frame, write_frame};
+use kk_frame::{Frame, frame_bytes};
 use kk_outside::{Failed, Sink};
 use kk_report::Block;
 use kk_rows::Row;
@@ -75,7 +75,5 @@ fn add_frame<K: Sink>(
     ensures adds { Adds (K.told sink.old) (K.told sink.new) block.old block.new result (frame_text ticket.now (value frame.now)) }
     ensures cause { HasCause (K.told sink.old).faults (K.told sink.new).faults result }
 {
-    let mut text = [0; FRAME_BYTES];
-    write_frame(frame, ticket, &mut text);
-    block.push(sink, &text)
+    block.push(sink, &frame_bytes(frame, ticket))
 }

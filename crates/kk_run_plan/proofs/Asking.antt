@@ -14,7 +14,7 @@ use Rattle.kk_order.specs.declared.order_form.TicketPlace.TheVariants.{Parts}
 use Rattle.kk_order.specs.Order.{Cause, IsRefusedFor, Order, Ticket, first_broken, order_found, order_of, order_under, order_unless, order_with, ticket_text_in}
 use Rattle.kk_order.specs.Refuses.{IsRange, Refuses, status_of}
 use Rattle.kk_order.proofs.Refusals.{same_order}
-use Rattle.kk_run_plan.specs.Plan.{IsPlanStatus, IsTooLong, answer_for, order_unless_many, plan_form}
+use Rattle.kk_run_plan.specs.Plan.{IsPlanStatus, IsTooLong, answer_by, answer_of, order_unless_many, plan_form}
 
 -- The words ask to plan under this ticket.
 pub record NamesTicket (words : List (List ℕ)) (t : TicketFields) : Type 0 where
@@ -31,9 +31,9 @@ named_once words P t order named ordered holds =
 -- ---- by how many bytes there are
 
 -- what words are refused for, a plan of any bytes is refused for
-pub refused_for : (bytes : List ℕ) (answer : Result Order Cause) (cause : Cause) → IsRefusedFor answer cause → IsRefusedFor (answer_for bytes answer) cause
+pub refused_for : (bytes : List ℕ) (answer : Result Order Cause) (cause : Cause) → IsRefusedFor answer cause → IsRefusedFor (answer_by bytes answer) cause
 refused_for bytes answer cause (inl memory) = inl memory
-refused_for bytes answer cause (inr why) = inr (ap (answer_for bytes) why)
+refused_for bytes answer cause (inr why) = inr (ap (answer_by bytes) why)
 
 many : (order : Order) (count : ℕ) → MAX_GENERATIONS < count → order_unless_many order count ≡ Err (Ticket (TooMany count))
 many order count long =
@@ -47,17 +47,17 @@ few order count short =
 
 -- a plan of too many bytes is refused for its ticket
 pub refused_long : (words : List (List ℕ)) (t : TicketFields) (bytes : List ℕ) → NamesTicket words t → IsTooLong t bytes
-    → answer_for bytes (order_of plan_form words) ≡ Err (Ticket (TooMany (generations (for_length t (length bytes)))))
+    → answer_of words bytes ≡ Err (Ticket (TooMany (generations (for_length t (length bytes)))))
 refused_long words t bytes named long =
-    ap (answer_for bytes) named.ordered
+    ap (answer_by bytes) named.ordered
     ∙ many named.order (generations (for_length named.order.ticket (length bytes))) (subst (λ u. IsTooLong u bytes) named.ticket long)
     ∙ ap (λ (u : TicketFields). Err (Ticket (TooMany (generations (for_length u (length bytes)))))) (sym named.ticket)
 
 -- and one of fewer has its order
 pub accepted_short : (words : List (List ℕ)) (t : TicketFields) (bytes : List ℕ) (named : NamesTicket words t) → (IsTooLong t bytes → ⊥)
-    → answer_for bytes (order_of plan_form words) ≡ Ok named.order
+    → answer_of words bytes ≡ Ok named.order
 accepted_short words t bytes named short =
-    ap (answer_for bytes) named.ordered
+    ap (answer_by bytes) named.ordered
     ∙ few named.order (generations (for_length named.order.ticket (length bytes))) (subst (λ u. IsTooLong u bytes → ⊥) named.ticket short)
 
 -- ---- why words are refused

@@ -19,7 +19,7 @@ use Rattle.kk_report.specs.Report.{concluded_text}
 use Rattle.kk_order.specs.Order.{Cause, IsRefusedFor, Ticket, order_of}
 use Rattle.kk_order.specs.Refuses.{refused_text, status_of}
 use Rattle.kk_order.proofs.Refusals.{refusal_status, words_accepted, words_refused}
-use Rattle.kk_run_plan.specs.Plan.{ReadsToEnd, StopsAtLimit, FailsBeforeEnd, IsFirstTooLong, answer_for, plan_form, planned, Plans}
+use Rattle.kk_run_plan.specs.Plan.{ReadsToEnd, StopsAtLimit, FailsBeforeEnd, IsFirstTooLong, answer_of, plan_form, planned, Plans}
 use Rattle.kk_run_plan.proofs.Asking.{NamesTicket, accepted_short, named_once, only_memory, refused_alone, refused_for, refused_long}
 use Rattle.kk_report.proofs.Statuses.{IsStatusOf, not_through, once_or_through, once_not_four, through_told, sinks_failed}
 
@@ -32,7 +32,7 @@ plans_refused words cause status source file report why is given =
     let bytes = bytes_read (change source source) in
     let once = refusal_status cause status is in
     record {
-      refusals = words_refused (answer_for bytes answer) cause status report (refused_for bytes answer cause why) is given;
+      refusals = words_refused (answer_of words bytes) cause status report (refused_for bytes answer cause why) is given;
       input_fault = λ can. (λ four. absurd (once_not_four status once four), λ rose. absurd (omega (arith, rose)));
       output_fault = λ can can_report touched. absurd (once_or_through status once touched);
       no_other_status = refused_alone words status report (words_refused answer cause status report why is given) once;
@@ -52,7 +52,7 @@ plans_failed words t status source file report named is rose before given =
     let bytes = bytes_read source in
     let ordered = accepted_short words t bytes named before.few in
     record {
-      refusals = words_accepted (answer_for bytes (order_of plan_form words)) named.order status report ordered (λ once. once_not_four status once is);
+      refusals = words_accepted (answer_of words bytes) named.order status report ordered (λ once. once_not_four status once is);
       input_fault = λ can. (λ _. rose can, λ _. is);
       output_fault = λ can can_report touched. absurd (not_through 4 status refl is touched);
       no_other_status = inr (inr (inl is));
@@ -76,10 +76,9 @@ pub plans_stopped : (words : List (List ℕ)) (t : TicketFields) (status : ℕ) 
     → Plans words source (change file file) report status
 plans_stopped words t status fault source file report named is kept stops told given =
     let bytes = bytes_read source in
-    let answer = answer_for bytes (order_of plan_form words) in
     let why = refused_long words t bytes named stops.many ∙ ap (λ f. Err (Ticket f)) (sym told) in
     record {
-      refusals = words_refused answer (Ticket fault) status report (inr why) is given;
+      refusals = words_refused (answer_of words bytes) (Ticket fault) status report (inr why) is given;
       input_fault = λ can. (λ e. absurd (omega (arith, e, is)), λ rose. absurd (omega (arith, rose, kept)));
       output_fault = λ can can_report touched. absurd (not_through 2 status refl is touched);
       no_other_status = inr (inl is);
@@ -102,7 +101,7 @@ plans_done words t told status source file report named kept ends tells five wri
     let ordered = accepted_short words t bytes named ends.few in
     let touched = through_told told status tells same in
     record {
-      refusals = words_accepted (answer_for bytes (order_of plan_form words)) named.order status report ordered (λ once. once_or_through status once touched);
+      refusals = words_accepted (answer_of words bytes) named.order status report ordered (λ once. once_or_through status once touched);
       input_fault = λ can. (λ e. absurd (not_through 4 status refl e touched), λ rose. absurd (omega (arith, rose, kept)));
       output_fault = λ can can_report _. sinks_failed told status file report tells same five report_five can can_report;
       no_other_status = inr (inr (inr (inr touched)));

@@ -67,11 +67,14 @@ planned t bytes = ticket_text (for_length t (length bytes)) ++ codes "\n"
 abbrev pub order_unless_many : Order → ℕ → Result Order Cause
 order_unless_many order count = if nat_lt MAX_GENERATIONS count then Err (Ticket (TooMany count)) else Ok order
 
--- What a plan of these bytes comes to, by the answer that the words give: words that have an order are refused too, for their
--- ticket, where a file of these bytes takes too many generations.
-abbrev pub answer_for : List ℕ → Result Order Cause → Result Order Cause
-answer_for bytes (Ok order) = order_unless_many order (generations (for_length order.ticket (length bytes)))
-answer_for bytes (Err cause) = Err cause
+-- the answer of the words: an order is refused for its ticket where a file of these bytes takes too many generations
+abbrev pub answer_by : List ℕ → Result Order Cause → Result Order Cause
+answer_by bytes (Ok order) = order_unless_many order (generations (for_length order.ticket (length bytes)))
+answer_by bytes (Err cause) = Err cause
+
+-- the answer of the words, where the source gave these bytes
+abbrev pub answer_of : List (List ℕ) → List ℕ → Result Order Cause
+answer_of words bytes = answer_by bytes (order_of plan_form words)
 
 -- The words have an order, and a read failed before there were too many bytes. The status and the report tell it.
 pub record RefusesSource (words : List (List ℕ)) (source : Change SourceTold) (status : ℕ) (report : Change SinkTold) : Type 0 where
@@ -87,7 +90,7 @@ IsPlanStatus status = (status ≡ 1) ⊎ ((status ≡ 2) ⊎ ((status ≡ 4) ⊎
 -- What a run of `plan` makes of its source and its two sinks, and which status it has.
 pub record Plans (words : List (List ℕ)) (source : Change SourceTold) (file report : Change SinkTold) (status : ℕ) : Type 0 where
   -- Which status comes: 8 is want of memory, and 0 comes where no other status does.
-  pub refusals : Refuses (answer_for (bytes_read source) (order_of plan_form words)) status report
+  pub refusals : Refuses (answer_of words (bytes_read source)) status report
   pub input_fault : CanCount source.old.faults → ((status ≡ 4) ↔ SourceFailed source)
   pub output_fault : CanCount file.old.faults → CanCount report.old.faults → RanThrough status → ((status ≡ 5) ↔ (SinkFailed file ⊎ SinkFailed report))
   pub no_other_status : IsPlanStatus status
@@ -97,7 +100,7 @@ pub record Plans (words : List (List ℕ)) (source : Change SourceTold) (file re
   pub failed_before_end : (order : Order) → order_of plan_form words ≡ Ok order → status ≡ 4 → FailsBeforeEnd order.ticket source
   -- What the file's sink holds: the ticket and a line feed.
   pub written : (order : Order) → order_of plan_form words ≡ Ok order → RanThrough status → WasGiven (planned order.ticket (bytes_read source)) file
-  -- What the report's sink holds, where the run was not refused by `refusals`.
+  -- What the report's sink holds, where `refusals` doesn't say it.
   pub source_refused : status ≡ 4 → RefusesSource words source status report
   pub reported : (order : Order) → order_of plan_form words ≡ Ok order → RanThrough status → IsConcluded [] status file report
 

@@ -12,7 +12,7 @@ ghost use Rattle.kk_run_plan.specs.Plan.{IsFirstTooLong, Plans, plan_form};
 use kk_code::Ticket;
 use kk_forms::{Argument, Form};
 use kk_order::{OrderFault, OrderForm, TicketPlace, refuse_words};
-use kk_outside::{Alloc, Sink, Source, fill, write_all};
+use kk_outside::{Alloc, Sink, Source, fill, write_all, zeroed};
 use kk_report::{Lines, Refusal, Status, conclude, refuse};
 use std::alloc::Global;
 
@@ -74,9 +74,7 @@ fn room_for(alloc: Global, ticket: &Ticket) -> Result<Vec<u8>, Alloc>
     ensures longest { IfOk result (λ bytes. IsFirstTooLong ticket.now (vec_len bytes)) }
     ensures short { IfOk result (λ bytes. vec_len bytes ≤ 2 ^ 22) }
 {
-    let mut bytes = Vec::new(alloc);
-    bytes.resize(ticket.max_length() as usize + 1, 0)?;
-    Ok(bytes)
+    zeroed(alloc, ticket.max_length() as usize + 1)
 }
 
 /// Writes the ticket and a line feed.

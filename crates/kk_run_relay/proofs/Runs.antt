@@ -7,13 +7,13 @@ use Rattle.kk_outside.specs.Causes.{CanCount, Rose}
 use Rattle.kk_outside.specs.Change.{Change}
 use Rattle.kk_outside.specs.Gate.{GateTold, events_told}
 use Rattle.kk_outside.specs.Generator.{word_at}
-use Rattle.kk_outside.specs.Outlet.{OutletTold, append_datagrams}
+use Rattle.kk_outside.specs.Outlet.{OutletTold, IsCutShort, append_datagrams}
 use Rattle.kk_outside.specs.Sink.{SinkTold, SinkFailed, WasGiven}
 use Rattle.kk_outside.specs.declared.event.Event.{Event}
 use Rattle.kk_frame.specs.declared.frame.TheConstants.{FRAME_BYTES}
 use Rattle.kk_frame.specs.declared.gate_count.GateCount.{GateCount}
+use Rattle.kk_frame.specs.Asking.{AsksUpToStop, StopsThere}
 use Rattle.kk_frame.specs.Events.{counts}
-use Rattle.kk_relay.specs.Progress.{AsksUpToStop, StopsThere, IsCutShort}
 use Rattle.kk_relay.specs.Relaying.{relayed, relay_list}
 use Rattle.kk_relay.specs.RelayState.{relay_after, rank}
 use Rattle.kk_report.specs.declared.refusal.Refusal.TheVariants.{Input, Outlet}

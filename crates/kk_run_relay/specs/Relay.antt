@@ -5,15 +5,15 @@ use Rattle.kk_outside.specs.Causes.{CanCount}
 use Rattle.kk_outside.specs.Change.{Change}
 use Rattle.kk_outside.specs.Gate.{GateTold, GateFailed, events_told}
 use Rattle.kk_outside.specs.Generator.{word_at}
-use Rattle.kk_outside.specs.Outlet.{OutletTold, OutletFailed, append_datagrams}
+use Rattle.kk_outside.specs.Outlet.{OutletTold, OutletFailed, IsCutShort, append_datagrams}
 use Rattle.kk_outside.specs.Sink.{SinkTold, SinkFailed, WasGiven}
 use Rattle.kk_outside.specs.declared.event.Event.{Event}
 use Rattle.kk_code.specs.Ticket.{TicketFields}
 use Rattle.kk_frame.specs.declared.frame.TheConstants.{FRAME_BYTES}
 use Rattle.kk_frame.specs.declared.limits.Limits.{Limits}
+use Rattle.kk_frame.specs.Asking.{AsksUpToStop, StopsThere}
 use Rattle.kk_frame.specs.Events.{taken, counts}
 use Rattle.kk_relay.specs.declared.relay.TheConstants.{MAX_RATE}
-use Rattle.kk_relay.specs.Progress.{AsksUpToStop, StopsThere, IsCutShort}
 use Rattle.kk_relay.specs.Relaying.{relayed, relay_list}
 use Rattle.kk_relay.specs.RelayState.{relay_after, rank}
 use Rattle.kk_report.specs.declared.refusal.Refusal.{Refusal}

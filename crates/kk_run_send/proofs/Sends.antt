@@ -1,6 +1,6 @@
 -- What `send` promises, at each of its ends.
 use Rattle.std.proofs.Common.{◌≡◌, inl, inr, ℕ, ◌+◌, ◌++◌, Bool, true, false, ltb, eqb, List, length, Option, Some, Result, Ok, Err, codes, refl, ap, sym, subst, ◌∙◌, arith}
-use Rattle.std.specs.Prelude.{◌↔◌, IfSome, is_some, unwrap_or}
+use Rattle.std.specs.Prelude.{◌↔◌, IfSome, is_some}
 use Rattle.std.specs.Fmt.{decimal}
 use Rattle.std.proofs.lemmas.Bool.{false≢true, eqb-true}
 use Rattle.kk_outside.specs.Causes.{CanCount}
@@ -10,21 +10,19 @@ use Rattle.rand_chacha.specs.ChaCha.{ChaCha, of_seed, next_word}
 use Rattle.kk_outside.specs.Generator.{word_at}
 use Rattle.kk_outside.specs.Source.{SourceTold, SourceFailed, bytes_read}
 use Rattle.kk_outside.specs.Sink.{SinkTold, SinkFailed, WasGiven}
-use Rattle.kk_outside.specs.Outlet.{OutletTold, OutletFailed, append_datagrams}
+use Rattle.kk_outside.specs.Outlet.{OutletTold, OutletFailed, IsCutShort, append_datagrams}
 use Rattle.kk_code.specs.Ticket.{TicketFields, generations}
 use Rattle.kk_sender.specs.declared.send.Sent.{Sent}
 use Rattle.kk_sender.specs.declared.fault.SendFault.{SendFault}
 use Rattle.kk_sender.specs.declared.fault.SendFault.TheVariants as fault
 use Rattle.kk_sender.specs.LengthRule.{wrong_length, ReadsToLength, FailsWithinLength, LeavesAfterLength}
 use Rattle.kk_sender.specs.SentFrames.{sent_rows, data_frames, sent_datagrams}
-use Rattle.kk_sender.specs.Sending.{SentPrefix}
 use Rattle.kk_sender.proofs.Lengths.{right-told}
 use Rattle.kk_report.specs.declared.refusal.Refusal.TheVariants.{Input, Length, Outlet}
 use Rattle.kk_report.specs.Command.{IsRefusalOfWords}
 use Rattle.kk_report.specs.Refusal.{refusal_text, status_of as refusal_status_of}
 use Rattle.kk_report.specs.Report.{concluded_text}
 use Rattle.kk_report.proofs.Statuses.{IsStatusOf, not_through, once_not_four, once_or_through, through_told}
-use Rattle.kk_forms.specs.Request.{under}
 use Rattle.kk_order.specs.Order.{Cause, IsRefusedFor, Memory, Order, order_of}
 use Rattle.kk_order.specs.Refuses.{refused_text, status_of}
 use Rattle.kk_order.specs.Seed.{words_of}
@@ -73,7 +71,7 @@ pub record IsSending (t : TicketFields) (list : List (List ℕ)) (source : Chang
   pub read : (result ≡ Err fault.Alloc → ⊥) → (result ≡ Err fault.Read → ⊥) → ReadsToLength t.length source
   pub before : result ≡ Err fault.Read → FailsWithinLength t.length source
   pub left : (result ≡ Err fault.Alloc → ⊥) → (result ≡ Err fault.Read → ⊥) → IfSome source.old.left (λ bytes. LeavesAfterLength t.length bytes source)
-  pub prefix : result ≡ Err fault.Outlet → SentPrefix outlet list
+  pub prefix : result ≡ Err fault.Outlet → IsCutShort outlet list
   pub unread : result ≡ Err fault.Alloc → source.new ≡ source.old
   pub unsent : result ≡ Err fault.Alloc → outlet.new ≡ outlet.old
 
@@ -190,7 +188,7 @@ sends_cut words order status source outlet report ordered sending is given =
       failed_within_length = λ other by four. absurd (omega (arith, four, is));
       remainder = λ other by _. by_order words (λ o. IfSome source.old.left (λ bytes. LeavesAfterLength o.ticket.length bytes source)) order other ordered by.ordered (sending.left outlet_alloc outlet_read);
       sent = λ other by sent. absurd (not_through 7 status refl is sent);
-      prefix = λ other by _. by_order words (λ o. SentPrefix outlet (ordered_datagrams o (bytes_read source))) order other ordered by.ordered prefix;
+      prefix = λ other by _. by_order words (λ o. IsCutShort outlet (ordered_datagrams o (bytes_read source))) order other ordered by.ordered prefix;
       refused = λ _ _. (order, ordered, (Outlet, prefix, record { tells = is; given = given }));
       reported = λ other by sent. absurd (not_through 7 status refl is sent);
     }
@@ -239,10 +237,6 @@ pub record Asks (order : Order) (t : TicketFields) (seed : List ℕ) (extra pack
   pub seeded : Some seed ≡ order.seed
   pub extra_is : extra ≡ combinations order
   pub pack_is : pack ≡ datagram_frames order
-
--- the number that an order has under a name
-pub number_is : (order : Order) (name : List ℕ) (number : Option ℕ) (n : ℕ) → number ≡ under order.numbers name → number ≡ Some n → n ≡ unwrap_or (under order.numbers name) 0
-number_is order name number n is some = ap (λ (o : Option ℕ). unwrap_or o 0) (sym some ∙ is)
 
 pub datagrams_by : (order : Order) (t : TicketFields) (seed : List ℕ) (extra pack : ℕ) (file : List ℕ) (rng : ChaCha) → Asks order t seed extra pack → rng ≡ of_seed seed
     → sent_datagrams t file extra pack (word_at (stream_of (steps_u32 (next_word 10)) rng)) ≡ ordered_datagrams order file

@@ -1,5 +1,5 @@
 -- `send`: a file comes in, and goes out in datagrams.
-use Rattle.std.specs.Prelude.{◌≡◌, ◌↔◌, ◌⊎◌, ℕ, ◌+◌, List, [], ◌∷◌, ◌++◌, length, codes, unwrap_or, Some, None, IfSome, Ok}
+use Rattle.std.specs.Prelude.{◌≡◌, ◌↔◌, ◌⊎◌, ℕ, ◌+◌, List, [], ◌∷◌, ◌++◌, length, codes, Some, None, IfSome, Ok}
 use Rattle.std.specs.Fmt.{decimal}
 use Rattle.kk_outside.specs.Causes.{CanCount}
 use Rattle.kk_outside.specs.Change.{Change}
@@ -11,7 +11,7 @@ use Rattle.kk_frame.specs.declared.datagram.TheConstants.{MAX_DATAGRAM_FRAMES}
 use Rattle.kk_sender.specs.declared.rows.TheConstants.{MAX_EXTRA}
 use Rattle.kk_sender.specs.LengthRule.{wrong_length, ReadsToLength, FailsWithinLength, LeavesAfterLength}
 use Rattle.kk_sender.specs.SentFrames.{sent_rows, data_frames, sent_datagrams}
-use Rattle.kk_sender.specs.Sending.{SentPrefix}
+use Rattle.kk_outside.specs.Outlet.{IsCutShort}
 use Rattle.kk_sender.specs.declared.fault.SendFault.{SendFault}
 use Rattle.kk_sender.specs.declared.fault.SendFault.TheVariants as send_fault
 use Rattle.kk_report.specs.declared.refusal.Refusal.{Refusal}
@@ -20,8 +20,7 @@ use Rattle.kk_report.specs.Command.{IsRefusalOfWords, RanThrough}
 use Rattle.kk_report.specs.Refusal.{IsRefused}
 use Rattle.kk_report.specs.Report.{concluded_text}
 use Rattle.kk_forms.specs.Form.{NumberOption, TextOption, Word}
-use Rattle.kk_forms.specs.Request.{under}
-use Rattle.kk_order.specs.Order.{Order, OrderForm, order_of}
+use Rattle.kk_order.specs.Order.{Order, OrderForm, number_of, order_of}
 use Rattle.kk_order.specs.Refuses.{Refuses}
 use Rattle.kk_order.specs.Seed.{words_of}
 use Rattle.kk_order.specs.declared.bound.Limit.TheVariants.{Exactly}
@@ -45,11 +44,11 @@ send_form = record {
 
 -- how many combinations of each generation are sent; an order to send has this number
 abbrev pub combinations : Order → ℕ
-combinations order = unwrap_or (under order.numbers (codes "extra")) 0
+combinations order = number_of order (codes "extra")
 
 -- how many frames a datagram has; an order to send has this number
 abbrev pub datagram_frames : Order → ℕ
-datagram_frames order = unwrap_or (under order.numbers (codes "pack")) 0
+datagram_frames order = number_of order (codes "pack")
 
 -- A run with these words and this status sent by this order: it wasn't refused before.
 pub record SendsBy (order : Order) (words : List (List ℕ)) (status : ℕ) : Type 0 where
@@ -82,7 +81,7 @@ abbrev pub IsCauseOf : Order → Change SourceTold → Change OutletTold → Ref
 IsCauseOf order source outlet Input = FailsWithinLength order.ticket.length source
 IsCauseOf order source outlet (Length got more) =
     ReadsToLength order.ticket.length source × (wrong_length order.ticket.length (length (bytes_read source)) ≡ Some (got, more))
-IsCauseOf order source outlet Outlet = SentPrefix outlet (ordered_datagrams order (bytes_read source))
+IsCauseOf order source outlet Outlet = IsCutShort outlet (ordered_datagrams order (bytes_read source))
 IsCauseOf order source outlet other = ⊥
 
 -- the statuses of `send`
@@ -110,7 +109,7 @@ pub record Sends (words : List (List ℕ)) (source : Change SourceTold) (report 
   pub remainder : (order : Order) → SendsBy order words status → (status ≡ 4 → ⊥) → IfSome source.old.left (λ bytes. LeavesAfterLength order.ticket.length bytes source)
   -- What was sent: all datagrams, or fewer of them, from the front, where the outlet failed.
   pub sent : (order : Order) → SendsBy order words status → RanThrough status → outlet.new.sends ≡ append_datagrams outlet.old.sends (ordered_datagrams order (bytes_read source))
-  pub prefix : (order : Order) → SendsBy order words status → status ≡ 7 → SentPrefix outlet (ordered_datagrams order (bytes_read source))
+  pub prefix : (order : Order) → SendsBy order words status → status ≡ 7 → IsCutShort outlet (ordered_datagrams order (bytes_read source))
   -- What the report's sink holds where the words are not refused: at 5 less than all of that.
   pub refused : (IsRefusalOfWords status → ⊥) → (RanThrough status → ⊥)
       → (order : Order) × (order_of send_form words ≡ Ok order) × ((cause : Refusal) × IsCauseOf order source outlet cause × IsRefused cause status report)

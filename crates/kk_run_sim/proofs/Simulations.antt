@@ -28,6 +28,7 @@ use Rattle.kk_code.proofs.Enumeration.{answer_is_the_message as its_answer}
 use Rattle.kk_decode.proofs.Answering.{answer-same_span}
 use Rattle.kk_decode.proofs.Losses.{distance_is_the_loss}
 use Rattle.kk_frame.specs.declared.frame.TheConstants.{FRAME_BYTES}
+use Rattle.kk_frame.specs.Counting.{no_counts}
 use Rattle.kk_frame.specs.Events.{stop, taken}
 use Rattle.kk_frame.specs.Generation.{rows_of}
 use Rattle.kk_table.specs.declared.view.Known.{Known}
@@ -40,7 +41,6 @@ use Rattle.kk_trial.proofs.Frames.{dealing_is_a_permutation, dealing_keeps_rows,
 use Rattle.kk_trial.proofs.Gates.{trial_gates_give_all}
 use Rattle.kk_trial.proofs.Rows.{trial_decodes_within_radius, received_rows_have_the_loss}
 use Rattle.kk_workers.specs.declared.totals.Totals.{Totals}
-use Rattle.kk_workers.specs.Worker.{no_counts}
 use Rattle.kk_workers.specs.Received.{changes, all_taken, ReceivedView, HasOneHistory, AddUp}
 use Rattle.kk_run_sim.specs.declared.simulation.Fate.{Fate}
 use Rattle.kk_run_sim.specs.declared.simulation.Fate.TheVariants.{Missing, Different, Equal}

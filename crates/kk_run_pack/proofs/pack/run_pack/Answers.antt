@@ -1,5 +1,4 @@
-use Rattle.std.proofs.Common.{◌≡◌, ℕ, ◌-◌, ◌++◌, codes, length, take, refl, ap, sym, subst, ◌∙◌, arith}
-use Rattle.std.specs.Fmt.{decimal}
+use Rattle.std.proofs.Common.{◌≡◌, ℕ, ◌-◌, length, take, refl, ap, subst, ◌∙◌, arith}
 use Rattle.kk_outside.specs.Change.{change}
 use Rattle.kk_outside.specs.Source.{bytes_read}
 use Rattle.kk_outside.specs.Sink.{WasGiven}
@@ -10,7 +9,6 @@ use Rattle.kk_report.specs.Report.{concluded_text}
 use Rattle.kk_report.specs.Status.{code_of}
 use Rattle.kk_order.specs.Order.{cause_of}
 use Rattle.kk_run_pack.specs.Pack.{frames_line}
-use Rattle.kk_run_pack.proofs.Capturing.{length-capture_frames}
 use Rattle.kk_run_pack.proofs.Packs.{packs_refused, packs_unread, packs_read, was_read}
 use Rattle.kk_run_pack.proofs.pack.run_pack.Goals as goal
 
@@ -44,8 +42,7 @@ returns-clause-packs g c =
     ap (λ (n : ℕ). take n c.deref.result.now) c.length.ensures.length
     ∙ the_file t.length c.in-Ok-room_for_file.room.len c.read_file.new.room c.in-Ok-room_for_file.room.items c.deref.result.now (bytes_read source) c.deref.ensures.value c.in-Ok-room_for_file.ensures (omega (arith, c.read_file.auto.room, c.deref_mut.ensures.len, c.in-Ok-room_for_file.ensures)) (rw same at h.file) in
     let text : c.as_str.result.now ≡ frames_line t (take c.length.result c.deref.result.now) =
-    c.as_str.ensures.value ∙ c.frames_line.ensures.text
-    ∙ ap (λ (n : ℕ). codes "frames " ++ decimal n ++ codes "\n") (sym (length-capture_frames t (take c.length.result c.deref.result.now))) in
+    c.as_str.ensures.value ∙ c.frames_line.ensures.text (take c.length.result c.deref.result.now) in
     packs_read (texts c.args.words.now) t len told c.conclude.result (take c.length.result c.deref.result.now) source file report
     (record { order = c.in-Ok.order; ordered = c.in-Ok.ensures.ordered; ticket = c.ticket-ticket.ensures }) same
     (record { wrong = h.wrong_length; failed = h.failed; read = h.read; before = h.failed_before; left = h.remainder })

@@ -4,9 +4,8 @@ use Rattle.rand_core.specs.Stream.{Stream}
 use Rattle.rand_chacha.specs.ChaCha.{next_word}
 use Rattle.kk_outside.specs.Change.{Change, change}
 use Rattle.kk_outside.specs.Gate.{GateTold, events_told}
-use Rattle.kk_outside.specs.Outlet.{OutletTold, append_datagrams}
+use Rattle.kk_outside.specs.Outlet.{OutletTold, IsCutShort, append_datagrams}
 use Rattle.kk_outside.specs.Sink.{SinkTold, WasGiven}
-use Rattle.kk_relay.specs.Progress.{IsCutShort}
 use Rattle.kk_relay.specs.RelayState.{BasisState, rank}
 use Rattle.kk_relay.specs.declared.relayed.RelayFault.{RelayFault}
 use Rattle.kk_relay.specs.declared.relayed.RelayFault.TheVariants.{Gate, Outlet}

@@ -3,14 +3,14 @@ use Rattle.kk_code.specs.Ticket.{TicketFields}
 use Rattle.kk_outside.specs.Change.{change}
 use Rattle.kk_outside.specs.Source.{bytes_read}
 use Rattle.kk_outside.specs.Sink.{WasGiven}
-use Rattle.kk_outside.specs.Outlet.{append_datagrams}
-use Rattle.kk_sender.specs.Sending.{SentPrefix}
+use Rattle.kk_outside.specs.Outlet.{IsCutShort, append_datagrams}
 use Rattle.kk_report.specs.Command.{texts}
 use Rattle.kk_report.specs.Refusal.{status_of, refusal_text}
 use Rattle.kk_report.specs.Report.{concluded_text}
 use Rattle.kk_order.specs.Order.{cause_of}
+use Rattle.kk_order.proofs.Orders.{number_is}
 use Rattle.kk_run_send.specs.Send.{ordered_datagrams, sent_line}
-use Rattle.kk_run_send.proofs.Sends.{Asks, IsSending, number_is, sends_refused, sends_failed, sends_done, datagrams_by, frames_by, line_by, sent_err, alloc_outlet}
+use Rattle.kk_run_send.proofs.Sends.{Asks, IsSending, sends_refused, sends_failed, sends_done, datagrams_by, frames_by, line_by, sent_err, alloc_outlet}
 use Rattle.kk_run_send.proofs.send.run_send.Goals as goal
 
 pub returns-in-Err-clause-sends : goal.returns-in-Err-clause-sends
@@ -42,7 +42,7 @@ returns-clause-sends g c =
       read = h.read;
       before = h.failed_before;
       left = h.remainder;
-      prefix = λ e. subst (SentPrefix (change o0 o1)) (datagrams_by order t c.unwrap-seed.result c.unwrap-extra.result c.unwrap-pack.result file c.from_seed-rng.result asks c.from_seed-rng.ensures) (h.prefix e);
+      prefix = λ e. subst (IsCutShort (change o0 o1)) (datagrams_by order t c.unwrap-seed.result c.unwrap-extra.result c.unwrap-pack.result file c.from_seed-rng.result asks c.from_seed-rng.ensures) (h.prefix e);
       unread = λ e. ap g.S.Source.told (h.unread e);
       unsent = λ e. ap g.O.Outlet.told (h.unsent (λ other. alloc_outlet c.in-Err-sent.fault e other));
     } in
