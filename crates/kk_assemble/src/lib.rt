@@ -12,6 +12,3 @@ mod message_bits;
 
 pub use cutting::cut;
 pub use joining::join;
-
-#[cfg(test)]
-mod tests;

@@ -8,6 +8,3 @@ mod rows;
 
 pub use channel::pass_through;
 pub use rows::{ChannelRows, MAX_CHANNEL_ROWS};
-
-#[cfg(test)]
-mod tests;

@@ -1,7 +1,6 @@
 pub mod Values
 pub mod PackedMultiples
 pub mod TermSums
-pub mod Irreducible
 pub mod Tickets
 pub mod Lengths
 pub mod Numerals

@@ -153,35 +153,3 @@ pub(crate) fn mask(m: u32) -> u64
 {
     u64::MAX >> (64 - m)
 }
-
-#[cfg(test)]
-mod tests {
-    use super::*;
-    use crate::check_modulus;
-
-    /// The limit that is broken first, where the modulus X^m + low is irreducible.
-    fn broken(m: u32, low: u64, l: u32, k: u32) -> Option<BadParams> {
-        if !(1..=64).contains(&m) || (m < 64 && low >> m != 0) {
-            return None;
-        }
-        let field = check_modulus(m, low).ok()?;
-        Code::new(field, l, k).err()
-    }
-
-    #[test]
-    fn the_first_broken_limit_is_named(rt: HostRuntime) {
-        for (m, low, l, k, limit) in [
-            (3, 3, 3, 1, None),
-            (1, 1, 0, 0, Some(BadParams::M)),
-            (64, 0x1b, 64, 64, None),
-            (64, 0x1b, 65, 65, Some(BadParams::L)),
-            (3, 3, 0, 0, Some(BadParams::L)),
-            (3, 3, 4, 5, Some(BadParams::L)),
-            (40, 0x39, 40, 40, None),
-            (3, 3, 3, 0, Some(BadParams::K)),
-            (3, 3, 3, 4, Some(BadParams::K)),
-        ] {
-            assert_eq!(rt; broken(m, low, l, k), limit);
-        }
-    }
-}

@@ -27,6 +27,3 @@ pub use metric::distance;
 pub use modulus::{NotIrreducible, check_modulus};
 pub use rows::CodeRows;
 pub use ticket::{MAX_GENERATIONS, Ticket};
-
-#[cfg(test)]
-mod tests;

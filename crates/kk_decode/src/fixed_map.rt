@@ -4,7 +4,7 @@ ghost use Rattle.std.specs.Prelude.{◌≡◌, ◌≢◌, ℕ, ◌+◌, ◌-◌,
 ghost use Rattle.kk_field.specs.Field.{field_product};
 ghost use Rattle.kk_linpoly.specs.LinPoly.{IsOver, value, xor_sum};
 ghost use Rattle.kk_linpoly.specs.declared.matrix.TheConstants.{MAX_COLUMNS};
-ghost use Rattle.kk_code.specs.Codeword.{IsMessage};
+ghost use Rattle.kk_code.specs.Codeword.{IsMessage, width};
 ghost use Rattle.kk_decode.specs.FixedMap.{IsFixedMap, column_value, element};
 ghost use Rattle.kk_code.specs.declared.code.TheConstants.{MAX_POINTS};
 
@@ -263,4 +263,74 @@ fn column_sum<L: Ledger>(
         sum ^= field.mul(rows[j].elements()[c], *power, steps);
     }
     sum
+}
+
+#[cfg(test)]
+mod tests {
+    use super::*;
+    use crate::by_map::decode_by_map;
+    use kk_code::Ticket;
+    use kk_rows::{Row, RowSpace};
+    use std::marker::Brand;
+    use std::sync::ledger::Blank;
+    use std::test::Fail;
+
+    /// The map of the code.
+    fn map_of<L: Ledger>(code: &Code, field: &FieldTables, blank: Blank) -> FixedMap
+        requires name { blank.name ≡ L.name }
+        requires parts { blank.parts ≡ L.parts }
+        requires some { 0 < blank.parts }
+        requires field { field.now ≡ code.now.field }
+    {
+        let mut steps: Steps<L> = Steps::new(blank);
+        let mut map = FixedMap::none();
+        map.renew(code, field, &mut steps);
+        map
+    }
+
+    // Each of their columns passes its test.
+    #[test]
+    fn codes_have_maps(rt: HostRuntime) -> Result<(), Fail> {
+        for ticket in [
+            "kk1:00000001:2:0000000000000003:1:1:1",
+            "kk1:00000001:3:0000000000000003:3:3:1",
+            "kk1:00000001:8:000000000000001b:8:4:1",
+            "kk1:00000001:8:000000000000001b:8:8:1",
+            "kk1:00000001:31:0000000000000009:24:16:1",
+            "kk1:00000001:31:0000000000000009:31:31:1",
+            "kk1:00000001:32:000000000000008d:31:31:1",
+            "kk1:00000001:62:0000000020000001:1:1:1",
+        ] {
+            let code = Ticket::read(ticket)?.code();
+            let field = FieldTables::new(code.field());
+            let map = map_of::<Brand>(&code, &field, Blank::new(1));
+            assert!(rt; map.is_of(&code), "{ticket}");
+        }
+        Ok(())
+    }
+
+    /// What the map gives for the codeword of 5 over GF(8).
+    fn mapped<L: Ledger>(code: &Code, blank: Blank) -> Option<Message>
+        requires name { blank.name ≡ L.name }
+        requires parts { blank.parts ≡ L.parts }
+        requires some { 0 < blank.parts }
+        requires width { width code.now ≡ 6 }
+    {
+        let field = FieldTables::new(code.field());
+        let map = map_of::<L>(code, &field, blank);
+        let mut space = RowSpace::new(6);
+        let _ = space.insert(Row(13));
+        let _ = space.insert(Row(17));
+        let _ = space.insert(Row(34));
+        decode_by_map(code, &field, &map, &space)
+    }
+
+    #[test]
+    fn the_map_gives_back_five(rt: HostRuntime) -> Result<(), Fail> {
+        let code = Ticket::read("kk1:00000001:3:0000000000000003:3:1:1")?.code();
+        assert_eq!(rt; code.width(), 6);
+        let u = mapped::<Brand>(&code, Blank::new(1)).ok_or("no message")?;
+        assert_eq!(rt; u.symbols(), [5].as_slice());
+        Ok(())
+    }
 }

@@ -25,6 +25,3 @@ mod weights;
 pub use decoder::{decode, decode_space, decode_uncounted};
 pub use loss::{Loss, channel_loss};
 pub use scratch::Scratch;
-
-#[cfg(test)]
-mod tests;

@@ -13,5 +13,3 @@ mod field;
 pub mod laws;
 mod ring;
 mod steps;
-#[cfg(test)]
-mod tests;

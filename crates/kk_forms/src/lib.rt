@@ -9,6 +9,3 @@ mod request;
 pub use fault::WordsFault;
 pub use form::{Argument, Form};
 pub use request::Request;
-
-#[cfg(test)]
-mod tests;

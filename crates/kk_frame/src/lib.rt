@@ -24,6 +24,3 @@ pub use intake::Intake;
 pub use limits::Limits;
 pub use reading::read_frame;
 pub use writing::{frame_bytes, send_frame, write_frame};
-
-#[cfg(test)]
-mod tests;

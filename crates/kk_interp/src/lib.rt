@@ -8,5 +8,3 @@ pub use interp::Interp;
 
 mod bi_poly;
 mod interp;
-#[cfg(test)]
-mod tests;

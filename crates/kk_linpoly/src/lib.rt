@@ -14,5 +14,3 @@ mod lin_map;
 mod lin_poly;
 mod matrix;
 mod places;
-#[cfg(test)]
-mod tests;

@@ -7,8 +7,6 @@ mod log;
 mod moves;
 mod sight;
 mod spaces;
-#[cfg(test)]
-mod tests;
 mod world;
 
 pub use call::{Call, Entry, Reply};

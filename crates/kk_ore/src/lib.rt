@@ -14,5 +14,3 @@ mod left;
 mod low;
 mod places;
 mod right;
-#[cfg(test)]
-mod tests;

@@ -22,8 +22,6 @@ mod sink;
 mod source;
 mod std_sink;
 mod std_source;
-#[cfg(test)]
-mod tests;
 mod udp_gate;
 mod udp_outlet;
 mod write_log;

@@ -90,29 +90,3 @@ fn tell(event: &Event, buf: &mut [u8; GATE_BYTES]) -> Result<Got, Failed>
         Event::Fault => Err(Failed),
     }
 }
-
-#[cfg(test)]
-mod tests {
-    use super::*;
-    use crate::Bytes;
-    use std::test::Fail;
-
-    #[test]
-    fn tells_its_events_in_order(rt: HostRuntime) -> Result<(), Fail> {
-        let alloc = rt.alloc();
-        let mut events = Vec::new(alloc);
-        events.push(Event::Datagram(Bytes::new([7u8, 8].to_vec(alloc)?)))?;
-        events.push(Event::Fault)?;
-        events.push(Event::Quiet)?;
-        let mut gate = MemoryGate::new(events);
-        let mut buf = [0; GATE_BYTES];
-        assert_eq!(rt; gate.next(&mut buf), Ok(Got::Datagram(2)));
-        assert_eq!(rt; &buf[..3], [7, 8, 0].as_slice());
-        assert_eq!(rt; gate.next(&mut buf), Err(Failed));
-        assert_eq!(rt; gate.faults(), 1);
-        assert_eq!(rt; gate.next(&mut buf), Ok(Got::Quiet));
-        assert_eq!(rt; gate.next(&mut buf), Ok(Got::Over));
-        assert_eq!(rt; gate.next(&mut buf), Ok(Got::Over));
-        Ok(())
-    }
-}

@@ -122,26 +122,3 @@ fn start_of(ends: &[usize], i: usize) -> usize
 {
     if i == 0 { 0 } else { ends[i - 1] }
 }
-
-#[cfg(test)]
-mod tests {
-    use super::*;
-    use std::test::Fail;
-
-    #[test]
-    fn fails_at_the_first_call_and_where_a_datagram_is_too_long(
-        rt: HostRuntime,
-    ) -> Result<(), Fail> {
-        let alloc = rt.alloc();
-        let mut outlet = MemoryOutlet::new(alloc, 5, [0u64].to_vec(alloc)?)?;
-        assert_eq!(rt; outlet.send(&[1, 2, 3]), Err(Failed));
-        assert_eq!(rt; outlet.send(&[1, 2, 3]), Ok(()));
-        assert_eq!(rt; outlet.send(&[4, 5, 6]), Err(Failed));
-        assert_eq!(rt; outlet.send(&[4, 5]), Ok(()));
-        assert_eq!(rt; outlet.faults(), 2);
-        assert_eq!(rt; outlet.sent(), 2);
-        assert_eq!(rt; outlet.datagram(0), [1, 2, 3].as_slice());
-        assert_eq!(rt; outlet.datagram(1), [4, 5].as_slice());
-        Ok(())
-    }
-}

@@ -110,23 +110,3 @@ impl Sink for MemorySink {
         Ok(n)
     }
 }
-
-#[cfg(test)]
-mod tests {
-    use super::*;
-    use std::test::Fail;
-
-    #[test]
-    fn fails_at_the_first_call_and_when_it_is_full(rt: HostRuntime) -> Result<(), Fail> {
-        let alloc = rt.alloc();
-        let mut sink = MemorySink::new(alloc, 4, 3, [0u64].to_vec(alloc)?)?;
-        assert_eq!(rt; sink.write(&[1, 2, 3, 4, 5]), Err(Failed));
-        assert_eq!(rt; sink.write(&[1, 2, 3, 4, 5]), Ok(3));
-        assert_eq!(rt; sink.write(&[4, 5]), Ok(1));
-        assert_eq!(rt; sink.write(&[5]), Err(Failed));
-        assert_eq!(rt; sink.write(&[]), Ok(0));
-        assert_eq!(rt; sink.bytes(), [1, 2, 3, 4].as_slice());
-        assert_eq!(rt; sink.faults(), 2);
-        Ok(())
-    }
-}

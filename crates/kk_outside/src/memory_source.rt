@@ -89,25 +89,3 @@ impl Source for MemorySource {
         Ok(n)
     }
 }
-
-#[cfg(test)]
-mod tests {
-    use super::*;
-    use std::test::Fail;
-
-    #[test]
-    fn gives_pieces_and_fails_at_the_second_call(rt: HostRuntime) -> Result<(), Fail> {
-        let alloc = rt.alloc();
-        let bytes = [1u8, 2, 3, 4, 5].to_vec(alloc)?;
-        let mut source = MemorySource::new(bytes, 3, [1u64].to_vec(alloc)?);
-        let mut buf = [0; 4];
-        assert_eq!(rt; source.read(&mut buf), Ok(3));
-        assert_eq!(rt; buf.as_slice(), [1, 2, 3, 0].as_slice());
-        assert_eq!(rt; source.read(&mut buf), Err(Failed));
-        assert_eq!(rt; source.faults(), 1);
-        assert_eq!(rt; source.read(&mut buf), Ok(2));
-        assert_eq!(rt; buf.as_slice(), [4, 5, 3, 0].as_slice());
-        assert_eq!(rt; source.read(&mut buf), Ok(0));
-        Ok(())
-    }
-}

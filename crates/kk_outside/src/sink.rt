@@ -30,21 +30,3 @@ pub fn write_all<K: Sink>(sink: &mut K, text: &[u8]) -> Result<(), Failed>
     }
     Ok(())
 }
-
-#[cfg(test)]
-mod tests {
-    use super::*;
-    use crate::MemorySink;
-    use std::test::Fail;
-
-    #[test]
-    fn writes_all_and_stops_at_a_fault(rt: HostRuntime) -> Result<(), Fail> {
-        let alloc = rt.alloc();
-        let mut sink = MemorySink::new(alloc, 8, 2, [4u64].to_vec(alloc)?)?;
-        assert_eq!(rt; write_all(&mut sink, &[1, 2, 3, 4, 5]), Ok(()));
-        assert_eq!(rt; sink.bytes(), [1, 2, 3, 4, 5].as_slice());
-        assert_eq!(rt; write_all(&mut sink, &[6, 7, 8]), Err(Failed));
-        assert_eq!(rt; sink.bytes(), [1, 2, 3, 4, 5, 6, 7].as_slice());
-        Ok(())
-    }
-}

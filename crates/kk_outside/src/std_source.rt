@@ -84,39 +84,3 @@ fn answer(outcome: io::Result<usize>, faults: &mut u64) -> Result<usize, Failed>
         }
     }
 }
-
-#[cfg(test)]
-mod tests {
-    use super::*;
-    use crate::fill;
-    use std::test::Fail;
-
-    #[derive(Drop)]
-    struct Broken;
-
-    impl Read for Broken {
-        fn read(&mut self, _: &mut [u8]) -> io::Result<usize> {
-            Err(io::ErrorKind::Other.into())
-        }
-    }
-
-    #[test]
-    fn reads_what_the_reader_gives(rt: HostRuntime) -> Result<(), Fail> {
-        let mut source = StdSource::new([1, 2, 3].as_slice());
-        let mut buf = [0; 8];
-        assert_eq!(rt; fill(&mut source, &mut buf), Ok(3));
-        assert_eq!(rt; &buf[..3], [1, 2, 3].as_slice());
-        assert_eq!(rt; source.faults(), 0);
-        Ok(())
-    }
-
-    #[test]
-    fn counts_the_errors_of_the_reader(rt: HostRuntime) -> Result<(), Fail> {
-        let mut source = StdSource::new(Broken);
-        let mut buf = [0; 8];
-        assert_eq!(rt; source.read(&mut buf), Err(Failed));
-        assert_eq!(rt; source.read(&mut buf), Err(Failed));
-        assert_eq!(rt; source.faults(), 2);
-        Ok(())
-    }
-}

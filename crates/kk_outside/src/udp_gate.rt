@@ -130,27 +130,3 @@ fn ended_wait(e: &io::Error) -> bool
         ErrorKind::WouldBlock | ErrorKind::TimedOut | ErrorKind::Interrupted
     )
 }
-
-#[cfg(test)]
-mod tests {
-    use super::*;
-    use std::test::Fail;
-
-    #[test]
-    fn tells_what_comes_over_loopback(rt: HostRuntime) -> Result<(), Fail> {
-        let mut gate = UdpGate::open(&rt, "127.0.0.1:0")?;
-        let address = gate.socket.local_addr()?;
-        let sender = UdpSocket::bind(&rt, "127.0.0.1:0")?;
-        let mut buf = [0; GATE_BYTES];
-        sender.send_to(&[1, 2, 3], address)?;
-        assert_eq!(rt; gate.next(&mut buf), Ok(Got::Datagram(3)));
-        assert_eq!(rt; &buf[..4], [1, 2, 3, 0].as_slice());
-        sender.send_to(&[7; 700], address)?;
-        assert_eq!(rt; gate.next(&mut buf), Ok(Got::Datagram(GATE_BYTES)));
-        assert_eq!(rt; gate.next(&mut buf), Ok(Got::Quiet));
-        assert_eq!(rt; gate.faults(), 0);
-        let refused = UdpGate::open(&rt, "127.0.0.1");
-        assert_eq!(rt; refused.err(), Some(OpenFault::Cannot));
-        Ok(())
-    }
-}

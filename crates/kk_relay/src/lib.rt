@@ -10,6 +10,3 @@ mod relayed;
 pub use kk_outside::Alloc;
 pub use relay::{MAX_RATE, Relay};
 pub use relayed::{RelayFault, Relayed};
-
-#[cfg(test)]
-mod tests;

@@ -30,19 +30,3 @@ impl<T: Drop> From<AllocFailed<T>> for Alloc {
         Alloc
     }
 }
-
-#[cfg(test)]
-mod tests {
-    use super::Alloc;
-    use std::alloc::{AllocError, AllocFailed};
-    use std::test::Fail;
-
-    #[test]
-    fn errors_of_memory_become_alloc(rt: HostRuntime) -> Result<(), Fail> {
-        assert_eq!(rt; Alloc::from(AllocError), Alloc);
-        assert_eq!(rt; Alloc::from(AllocFailed { value: 7u8 }), Alloc);
-        let text = format!(in rt.alloc(); "{}", Alloc)?;
-        assert_eq!(rt; text.as_str(), "out of memory");
-        Ok(())
-    }
-}

@@ -10,8 +10,6 @@ pub mod laws;
 mod row_list;
 mod row_space;
 mod rows;
-#[cfg(test)]
-mod tests;
 mod traced;
 mod word;
 

@@ -3,7 +3,5 @@
 
 mod pack;
 mod packing;
-#[cfg(test)]
-mod tests;
 
 pub use pack::{PACK, run_pack};

@@ -2,7 +2,5 @@
 #![tactic(auto)]
 
 mod send;
-#[cfg(test)]
-mod tests;
 
 pub use send::{SEND, run_send};

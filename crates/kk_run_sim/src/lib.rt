@@ -3,7 +3,5 @@
 
 mod sim;
 mod simulation;
-#[cfg(test)]
-mod tests;
 
 pub use sim::{SIM, run_sim};

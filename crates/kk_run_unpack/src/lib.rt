@@ -4,8 +4,6 @@
 pub mod laws;
 mod receive;
 mod report;
-#[cfg(test)]
-mod tests;
 mod totals;
 mod unpack;
 mod unpacking;

@@ -8,7 +8,7 @@ mod recv;
 mod sockets;
 mod unpack;
 
-use kk_outside::{Alloc, Gate, MemoryGate, MemoryOutlet, MemorySink, MemorySource};
+use kk_outside::{Alloc, Gate, MemoryGate, MemoryOutlet, MemorySink, MemorySource, Outlet, Source};
 use kk_table::Logs;
 use kk_top::run;
 use kk_worked::texts;
@@ -26,13 +26,14 @@ fn front(bytes: &[u8]) -> &[u8] {
 }
 
 /// What is under a run: the words, the bytes of the source and how many a read gives, how many bytes the sinks take at once and
-/// the report's in all, and the numbers of the calls that fail.
+/// in all, and the numbers of the calls that fail.
 #[derive(Clone, Copy, Drop)]
 struct Setting<'a> {
     words: &'a [&'a str],
     bytes: &'a [u8],
     read: usize,
     write: usize,
+    file_room: usize,
     report_write: usize,
     report_room: usize,
     source_fails: &'a [u64],
@@ -47,6 +48,7 @@ fn unfailing<'a>(words: &'a [&'a str], bytes: &'a [u8]) -> Setting<'a> {
         bytes,
         read: 20,
         write: 100,
+        file_room: 100,
         report_write: 100,
         report_room: 3000,
         source_fails: &[],
@@ -86,7 +88,7 @@ fn objects_of(alloc: Global, setting: &Setting) -> Result<Objects, Alloc>
 {
     Ok(Objects {
         source: source_of(alloc, setting.bytes, setting.read, setting.source_fails)?,
-        file: sink_of(alloc, 100, setting.write, setting.file_fails)?,
+        file: sink_of(alloc, setting.file_room, setting.write, setting.file_fails)?,
         report: sink_of(
             alloc,
             setting.report_room,
@@ -119,6 +121,23 @@ fn run_over<R: Threads + Sync, G: Gate + Send>(
         gates,
         &mut objects.outlet,
         &mut objects.logs,
+    )
+}
+
+/// Runs the program with no gate, and answers the status.
+fn run_without_gates<R: Threads + Sync, S: Source, O: Outlet>(
+    rt: &R,
+    alloc: Global,
+    words: &[String],
+    source: &mut S,
+    file: &mut MemorySink,
+    report: &mut MemorySink,
+    outlet: &mut O,
+) -> u8 {
+    let mut gates: Vec<MemoryGate> = Vec::new(alloc);
+    let mut logs = Vec::new(alloc);
+    run(
+        rt, alloc, words, source, file, report, &mut gates, outlet, &mut logs,
     )
 }
 

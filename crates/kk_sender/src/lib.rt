@@ -14,6 +14,3 @@ pub use file::{read_file, room_for_file};
 pub use kk_outside::Alloc;
 pub use rows::MAX_EXTRA;
 pub use send::{Sent, capture_frames, send_all};
-
-#[cfg(test)]
-mod tests;

@@ -17,6 +17,3 @@ pub use gen_table::GenTable;
 pub use logs::{Held, Logs};
 pub use pass::Pass;
 pub use view::{Known, Shape, View};
-
-#[cfg(test)]
-mod tests;

@@ -6,6 +6,4 @@ pub use field_tables::FieldTables;
 
 pub mod bytes;
 mod field_tables;
-#[cfg(test)]
-mod tests;
 pub mod windows;

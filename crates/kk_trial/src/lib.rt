@@ -12,6 +12,3 @@ mod trials;
 pub use kk_outside::Alloc;
 pub use operator_channel::OperatorChannel;
 pub use trials::{Trial, make_trial};
-
-#[cfg(test)]
-mod tests;

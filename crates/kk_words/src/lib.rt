@@ -11,6 +11,3 @@ pub use asked::Asked;
 pub use command::Command;
 pub use kk_forms::WordsFault;
 pub use reading::read_words;
-
-#[cfg(test)]
-mod tests;

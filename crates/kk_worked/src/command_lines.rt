@@ -12,3 +12,12 @@ pub fn texts(alloc: Global, words: &[&str]) -> Result<Vec<String>, AllocError> {
     }
     Ok(texts)
 }
+
+/// The words of a line, parted by single spaces.
+pub fn words_of(alloc: Global, line: &str) -> Result<Vec<String>, AllocError> {
+    let mut words = Vec::new(alloc);
+    for word in line.split(' ') {
+        words.push(String::from_str(alloc, word)?)?;
+    }
+    Ok(words)
+}

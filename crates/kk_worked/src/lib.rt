@@ -5,4 +5,4 @@ mod captures;
 mod command_lines;
 
 pub use captures::{FIVE, FIVE_AND_ZEROS, ONE_BYTE, SEVEN, ZERO, capture, frame};
-pub use command_lines::{ZEROS, texts};
+pub use command_lines::{ZEROS, texts, words_of};

@@ -21,6 +21,3 @@ pub use running::MAX_GATES;
 pub use totals::Totals;
 pub use worker::{Unmade, Worker};
 pub use working::work;
-
-#[cfg(test)]
-mod tests;

@@ -1,8 +1,7 @@
 //! Each call outside fails in turn: the status, and what the sinks hold then.
-use super::{Setting, expect, front, outcome_of, sink_of, source_of, unfailing};
+use super::{Setting, expect, front, outcome_of, unfailing};
 use kk_outside::Alloc;
-use kk_top::run_pack;
-use kk_worked::{FIVE, ONE_BYTE, SEVEN, ZERO, capture, texts};
+use kk_worked::{FIVE, ONE_BYTE, SEVEN, ZERO, capture};
 use std::alloc::Global;
 use std::process::Abort;
 use std::test::Fail;
@@ -85,51 +84,65 @@ fn read_after_the_last_piece(rt: HostRuntime) -> Result<(), Fail> {
 /// The number of a write that fails, and what the file's sink has then.
 const WRITES: &[(u64, &[u8])] = &[(0, b""), (1, b"\xa0"), (2, b"\xa0\x51")];
 
-/// Each write takes one byte. Write number 3 is never made.
+/// The capture of these three bytes.
+const THREE_CODEWORDS: &[[u8; 3]] = &[FIVE, ZERO, ZERO, FIVE, ZERO, SEVEN, SEVEN, SEVEN];
+
+/// Unpacks a capture of three bytes, by writes of one byte, of which those of these numbers fail.
+fn unpacking<'a>(bytes: &'a [u8], file_fails: &'a [u64]) -> Setting<'a> {
+    Setting {
+        write: 1,
+        file_fails,
+        ..unfailing(THREE, bytes)
+    }
+}
+
+/// Each write takes one byte.
 #[test]
 fn each_write(rt: HostRuntime) -> Result<(), Fail> {
-    let alloc = rt.alloc();
-    let bytes = capture(alloc, &[FIVE, ZERO, ZERO, FIVE, ZERO, SEVEN, SEVEN, SEVEN])?;
+    let bytes = capture(rt.alloc(), THREE_CODEWORDS)?;
     for (write, file) in WRITES {
-        let setting = Setting {
-            write: 1,
-            file_fails: &[*write],
-            ..unfailing(THREE, &bytes)
-        };
-        let outcome = outcome_of(&rt, alloc, &setting)?;
+        let outcome = outcome_of(&rt, rt.alloc(), &unpacking(&bytes, &[*write]))?;
         expect(&rt, &outcome, 5, file, b"status 5\n");
     }
-    let setting = Setting {
-        write: 1,
-        file_fails: &[3],
-        ..unfailing(THREE, &bytes)
-    };
-    expect_file(&rt, alloc, &setting, 0, b"\xa0\x51\xff")?;
     Ok(())
 }
 
-/// The bytes of the capture that `pack` makes of three bytes.
-fn packed(alloc: Global) -> Result<Vec<u8>, Alloc> {
-    let words = texts(alloc, &["pack", THREE_BYTES])?;
-    let mut source = source_of(alloc, &[0xa0, 0x51, 0xff], 2, &[])?;
-    let mut file = sink_of(alloc, 1000, 64, &[])?;
-    let mut report = sink_of(alloc, 100, 100, &[])?;
-    run_pack(alloc, &words, &mut source, &mut file, &mut report);
-    Ok(file.bytes().to_vec(alloc)?)
+/// Write number 3 is never made.
+#[test]
+fn write_after_the_last_byte(rt: HostRuntime) -> Result<(), Fail> {
+    let bytes = capture(rt.alloc(), THREE_CODEWORDS)?;
+    expect_file(
+        &rt,
+        rt.alloc(),
+        &unpacking(&bytes, &[3]),
+        0,
+        b"\xa0\x51\xff",
+    )?;
+    Ok(())
 }
+
+/// Packs three bytes.
+const PACKING: Setting<'static> = Setting {
+    words: &["pack", THREE_BYTES],
+    bytes: b"\xa0\x51\xff",
+    read: 2,
+    write: 64,
+    file_room: 1000,
+    report_write: 100,
+    report_room: 100,
+    source_fails: &[],
+    file_fails: &[],
+    report_fails: &[],
+};
 
 /// What `pack` wrote is unpacked, byte after byte.
 #[test]
 fn what_is_packed_is_unpacked(rt: HostRuntime) -> Result<(), Fail> {
-    let alloc = rt.alloc();
-    let bytes = packed(alloc)?;
-    let whole = capture(alloc, &[FIVE, ZERO, ZERO, FIVE, ZERO, SEVEN, SEVEN, SEVEN])?;
-    assert_eq!(rt; bytes, whole);
-    let setting = Setting {
-        write: 1,
-        ..unfailing(THREE, &bytes)
-    };
-    expect_file(&rt, alloc, &setting, 0, b"\xa0\x51\xff")?;
+    let packed = outcome_of(&rt, rt.alloc(), &PACKING)?;
+    let bytes = packed.left.file.bytes();
+    let whole = capture(rt.alloc(), THREE_CODEWORDS)?;
+    assert_eq!(rt; bytes, whole.as_slice());
+    expect_file(&rt, rt.alloc(), &unpacking(bytes, &[]), 0, b"\xa0\x51\xff")?;
     Ok(())
 }
 

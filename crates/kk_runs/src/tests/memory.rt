@@ -2,12 +2,15 @@
 //!
 //! Where memory is found both tests of a run pass. `bench/memory` refuses each request in turn: then the test `.._or_not_at_all`
 //! passes for each request that the run makes, and `.._finds_memory` fails for these alone.
-ghost use Rattle.std.specs.Prelude.{◌≡◌, ◌≤◌, IfOk, length};
+ghost use Rattle.std.specs.Prelude.{◌≡◌, ◌≤◌, [], IfOk, length};
 ghost use Rattle.kk_outside.specs.Gate.{FitsGate};
+ghost use Rattle.kk_workers.specs.declared.running.TheConstants.{MAX_GATES};
 
 use kk_outside::{
-    Bytes, Event, GATE_BYTES, Gate, Got, MemoryGate, MemoryOutlet, MemorySink, MemorySource, fill,
+    Alloc, Bytes, Event, GATE_BYTES, Gate, Got, MemoryGate, MemoryOutlet, MemorySink, MemorySource,
+    fill,
 };
+use kk_table::Logs;
 use kk_top::{run_pack, run_recv, run_relay, run_send, run_unpack};
 use kk_worked::{FIVE, ONE_BYTE, ZERO, ZEROS, capture, frame, texts};
 use std::alloc::{AllocError, Global};
@@ -89,25 +92,55 @@ fn untaken_of(gates: &mut [MemoryGate]) -> [usize; 3] {
     untaken
 }
 
+/// A source, and the sinks of a file and a report.
+#[derive(Drop)]
+struct Streams {
+    source: MemorySource,
+    file: MemorySink,
+    report: MemorySink,
+}
+
+/// A source of these bytes, and sinks with so much room.
+fn streams_of(alloc: Global, bytes: Vec<u8>, file: usize, report: usize) -> Result<Streams, Alloc> {
+    Ok(Streams {
+        source: MemorySource::new(bytes, 20, Vec::new(alloc)),
+        file: MemorySink::new(alloc, file, 1000, Vec::new(alloc))?,
+        report: MemorySink::new(alloc, report, 1000, Vec::new(alloc))?,
+    })
+}
+
+/// What a run with this status left in its streams.
+fn left_in(status: u8, streams: &mut Streams) -> Left {
+    Left {
+        status,
+        told_memory: told_memory(&streams.report),
+        file: streams.file.bytes().len(),
+        untaken: [untaken_bytes(&mut streams.source), 0, 0],
+        ..ALL_TAKEN
+    }
+}
+
 const UNPACKED: Left = Left {
     file: 1,
     ..ALL_TAKEN
 };
 
-fn unpacked(alloc: Global) -> Result<Left, Fail> {
+fn unpack_over(alloc: Global, words: &[String], streams: &mut Streams) -> u8 {
+    run_unpack(
+        alloc,
+        words,
+        &mut streams.source,
+        &mut streams.file,
+        &mut streams.report,
+    )
+}
+
+fn unpacked(alloc: Global) -> Result<Left, Alloc> {
     let words = texts(alloc, &["unpack", ONE_BYTE])?;
     let bytes = capture(alloc, &[FIVE, ZERO, ZERO])?;
-    let mut source = MemorySource::new(bytes, 20, Vec::new(alloc));
-    let mut file = MemorySink::new(alloc, 100, 100, Vec::new(alloc))?;
-    let mut report = MemorySink::new(alloc, 1000, 1000, Vec::new(alloc))?;
-    let status = run_unpack(alloc, &words, &mut source, &mut file, &mut report);
-    Ok(Left {
-        status,
-        told_memory: told_memory(&report),
-        file: file.bytes().len(),
-        untaken: [untaken_bytes(&mut source), 0, 0],
-        ..ALL_TAKEN
-    })
+    let mut streams = streams_of(alloc, bytes, 100, 1000)?;
+    let status = unpack_over(alloc, &words, &mut streams);
+    Ok(left_in(status, &mut streams))
 }
 
 #[test]
@@ -127,19 +160,22 @@ const PACKED: Left = Left {
     ..ALL_TAKEN
 };
 
-fn packed(alloc: Global) -> Result<Left, Fail> {
+fn pack_over(alloc: Global, words: &[String], streams: &mut Streams) -> u8 {
+    run_pack(
+        alloc,
+        words,
+        &mut streams.source,
+        &mut streams.file,
+        &mut streams.report,
+    )
+}
+
+fn packed(alloc: Global) -> Result<Left, Alloc> {
     let words = texts(alloc, &["pack", ONE_BYTE])?;
-    let mut source = MemorySource::new([0xa0u8].to_vec(alloc)?, 1, Vec::new(alloc));
-    let mut file = MemorySink::new(alloc, 1000, 1000, Vec::new(alloc))?;
-    let mut report = MemorySink::new(alloc, 100, 100, Vec::new(alloc))?;
-    let status = run_pack(alloc, &words, &mut source, &mut file, &mut report);
-    Ok(Left {
-        status,
-        told_memory: told_memory(&report),
-        file: file.bytes().len(),
-        untaken: [untaken_bytes(&mut source), 0, 0],
-        ..ALL_TAKEN
-    })
+    let bytes = [0xa0u8].to_vec(alloc)?;
+    let mut streams = streams_of(alloc, bytes, 1000, 100)?;
+    let status = pack_over(alloc, &words, &mut streams);
+    Ok(left_in(status, &mut streams))
 }
 
 #[test]
@@ -160,28 +196,51 @@ const SENT: Left = Left {
     ..ALL_TAKEN
 };
 
-fn sent(alloc: Global) -> Result<Left, Fail> {
-    let words = [
-        "send",
-        ONE_BYTE,
-        "127.0.0.1:9",
-        "--extra",
-        "2",
-        "--seed",
-        ZEROS,
-    ];
-    let words = texts(alloc, &words)?;
-    let mut source = MemorySource::new([0xa0u8].to_vec(alloc)?, 1, Vec::new(alloc));
-    let mut report = MemorySink::new(alloc, 100, 100, Vec::new(alloc))?;
-    let mut outlet = MemoryOutlet::new(alloc, 1000, Vec::new(alloc))?;
-    let status = run_send(alloc, &words, &mut source, &mut report, &mut outlet);
-    Ok(Left {
-        status,
-        told_memory: told_memory(&report),
-        untaken: [untaken_bytes(&mut source), 0, 0],
-        sent: outlet.sent(),
-        ..ALL_TAKEN
+const SEND: &[&str] = &[
+    "send",
+    ONE_BYTE,
+    "127.0.0.1:9",
+    "--extra",
+    "2",
+    "--seed",
+    ZEROS,
+];
+
+/// A report's sink and an outlet.
+#[derive(Drop)]
+struct Ends {
+    report: MemorySink,
+    outlet: MemoryOutlet,
+}
+
+fn ends_of(alloc: Global, report: usize) -> Result<Ends, Alloc> {
+    Ok(Ends {
+        report: MemorySink::new(alloc, report, 1000, Vec::new(alloc))?,
+        outlet: MemoryOutlet::new(alloc, 1000, Vec::new(alloc))?,
     })
+}
+
+/// What a run with this status left, and what its ends took.
+fn left_at(status: u8, untaken: [usize; 3], ends: &Ends) -> Left {
+    Left {
+        status,
+        told_memory: told_memory(&ends.report),
+        untaken,
+        sent: ends.outlet.sent(),
+        ..ALL_TAKEN
+    }
+}
+
+fn send_over(alloc: Global, words: &[String], source: &mut MemorySource, ends: &mut Ends) -> u8 {
+    run_send(alloc, words, source, &mut ends.report, &mut ends.outlet)
+}
+
+fn sent(alloc: Global) -> Result<Left, Alloc> {
+    let words = texts(alloc, SEND)?;
+    let mut source = MemorySource::new([0xa0u8].to_vec(alloc)?, 1, Vec::new(alloc));
+    let mut ends = ends_of(alloc, 100)?;
+    let status = send_over(alloc, &words, &mut source, &mut ends);
+    Ok(left_at(status, [untaken_bytes(&mut source), 0, 0], &ends))
 }
 
 #[test]
@@ -228,29 +287,27 @@ fn two_rows(alloc: Global) -> Result<MemoryGate, AllocError> {
     Ok(MemoryGate::new(Vec::from_array(alloc, events)?))
 }
 
-fn relayed(alloc: Global) -> Result<Left, Fail> {
-    let words = [
-        "relay",
-        ONE_BYTE,
-        "127.0.0.1:9",
-        "127.0.0.1:9",
-        "--rate",
-        "2",
-        "--seed",
-        ZEROS,
-    ];
-    let words = texts(alloc, &words)?;
+const RELAY: &[&str] = &[
+    "relay",
+    ONE_BYTE,
+    "127.0.0.1:9",
+    "127.0.0.1:9",
+    "--rate",
+    "2",
+    "--seed",
+    ZEROS,
+];
+
+fn relay_over(alloc: Global, words: &[String], gates: &mut Vec<MemoryGate>, ends: &mut Ends) -> u8 {
+    run_relay(alloc, words, &mut ends.report, gates, &mut ends.outlet)
+}
+
+fn relayed(alloc: Global) -> Result<Left, Alloc> {
+    let words = texts(alloc, RELAY)?;
     let mut gates = Vec::from_array(alloc, [two_rows(alloc)?])?;
-    let mut report = MemorySink::new(alloc, 1000, 1000, Vec::new(alloc))?;
-    let mut outlet = MemoryOutlet::new(alloc, 1000, Vec::new(alloc))?;
-    let status = run_relay(alloc, &words, &mut report, &mut gates, &mut outlet);
-    Ok(Left {
-        status,
-        told_memory: told_memory(&report),
-        untaken: untaken_of(&mut gates),
-        sent: outlet.sent(),
-        ..ALL_TAKEN
-    })
+    let mut ends = ends_of(alloc, 1000)?;
+    let status = relay_over(alloc, &words, &mut gates, &mut ends);
+    Ok(left_at(status, untaken_of(&mut gates), &ends))
 }
 
 #[test]
@@ -282,29 +339,63 @@ fn three_gates(alloc: Global) -> Result<Vec<MemoryGate>, AllocError>
     Ok(Vec::from_array(alloc, [MemoryGate::new(Vec::new(alloc)), second, third])?)
 }
 
-fn received<R: Threads + Sync>(rt: &R, alloc: Global) -> Result<Left, Fail> {
-    let words = texts(alloc, &["recv", ONE_BYTE, "127.0.0.1:9"])?;
-    let mut gates = three_gates(alloc)?;
-    let mut file = MemorySink::new(alloc, 100, 100, Vec::new(alloc))?;
-    let mut report = MemorySink::new(alloc, 3000, 3000, Vec::new(alloc))?;
-    let mut logs = Vec::new(alloc);
-    let status = run_recv(
+/// What `recv` fills.
+#[derive(Drop)]
+struct Filled {
+    file: MemorySink,
+    report: MemorySink,
+    logs: Vec<Logs>,
+}
+
+fn unfilled(alloc: Global) -> Result<Filled, Alloc>
+    ensures { IfOk result (λ filled. filled.logs.items ≡ []) }
+{
+    Ok(Filled {
+        file: MemorySink::new(alloc, 100, 100, Vec::new(alloc))?,
+        report: MemorySink::new(alloc, 3000, 3000, Vec::new(alloc))?,
+        logs: Vec::new(alloc),
+    })
+}
+
+fn recv_over<R: Threads + Sync>(
+    rt: &R,
+    alloc: Global,
+    words: &[String],
+    gates: &mut Vec<MemoryGate>,
+    filled: &mut Filled,
+) -> u8
+    requires few { length gates.old.items ≤ MAX_GATES }
+    requires no_logs { filled.old.logs.items ≡ [] }
+{
+    run_recv(
         rt,
         alloc,
-        &words,
-        &mut file,
-        &mut report,
-        &mut gates,
-        &mut logs,
-    );
-    Ok(Left {
+        words,
+        &mut filled.file,
+        &mut filled.report,
+        gates,
+        &mut filled.logs,
+    )
+}
+
+/// What a run with this status left of the gates, and filled.
+fn left_of(status: u8, gates: &mut [MemoryGate], filled: &Filled) -> Left {
+    Left {
         status,
-        told_memory: told_memory(&report),
-        file: file.bytes().len(),
-        untaken: untaken_of(&mut gates),
-        logs: logs.len(),
+        told_memory: told_memory(&filled.report),
+        file: filled.file.bytes().len(),
+        untaken: untaken_of(gates),
+        logs: filled.logs.len(),
         ..ALL_TAKEN
-    })
+    }
+}
+
+fn received<R: Threads + Sync>(rt: &R, alloc: Global) -> Result<Left, Alloc> {
+    let words = texts(alloc, &["recv", ONE_BYTE, "127.0.0.1:9"])?;
+    let mut gates = three_gates(alloc)?;
+    let mut filled = unfilled(alloc)?;
+    let status = recv_over(rt, alloc, &words, &mut gates, &mut filled);
+    Ok(left_of(status, &mut gates, &filled))
 }
 
 #[test]

@@ -1,9 +1,8 @@
 //! A sender and a receiver over real sockets.
 ghost use Rattle.std.specs.Prelude.{◌≡◌, IfOk, length};
 
-use super::{expect, outcome_over, sink_of, source_of, unfailing};
-use kk_outside::{Alloc, MemoryGate, UdpGate, UdpOutlet};
-use kk_top::run;
+use super::{expect, objects_of, outcome_over, run_without_gates, unfailing};
+use kk_outside::{Alloc, UdpGate, UdpOutlet};
 use kk_worked::{ZEROS, texts};
 use std::alloc::Global;
 use std::net::UdpSocket;
@@ -59,21 +58,15 @@ fn send_byte<R: Threads + Sync>(
     outlet: &mut UdpOutlet,
 ) -> Result<u8, Alloc> {
     let words = texts(alloc, &["send", THREE_FRAMES, target, "--seed", ZEROS])?;
-    let mut source = source_of(alloc, &[byte], 1, &[])?;
-    let mut file = sink_of(alloc, 0, 1, &[])?;
-    let mut report = sink_of(alloc, 100, 100, &[])?;
-    let mut gates: Vec<MemoryGate> = Vec::new(alloc);
-    let mut logs = Vec::new(alloc);
-    Ok(run(
+    let mut objects = objects_of(alloc, &unfailing(&[], &[byte]))?;
+    Ok(run_without_gates(
         rt,
         alloc,
         &words,
-        &mut source,
-        &mut file,
-        &mut report,
-        &mut gates,
+        &mut objects.source,
+        &mut objects.file,
+        &mut objects.report,
         outlet,
-        &mut logs,
     ))
 }
 

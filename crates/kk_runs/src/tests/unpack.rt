@@ -1,9 +1,8 @@
 //! `unpack` over sources and sinks in memory.
 ghost use Rattle.std.specs.Prelude.{◌<◌};
 
-use super::{Setting, expect, front, outcome_of, sink_of, unfailing};
-use kk_outside::{Alloc, MemoryGate, MemoryOutlet, Source, StdSource};
-use kk_top::run;
+use super::{Setting, expect, front, objects_of, outcome_of, run_without_gates, unfailing};
+use kk_outside::{Alloc, Source, StdSource};
 use kk_worked::{FIVE, ONE_BYTE, ZERO, capture, frame, texts};
 use std::alloc::Global;
 use std::io;
@@ -345,24 +344,18 @@ fn expect_cut<R: Threads + Abort + Sync, S: Source>(
     source: &mut S,
 ) -> Result<(), Alloc> {
     let words = texts(alloc, &["unpack", ONE_BYTE])?;
-    let mut file = sink_of(alloc, 1, 1, &[])?;
-    let mut report = sink_of(alloc, 1000, 100, &[])?;
-    let mut outlet = MemoryOutlet::new(alloc, 0, Vec::new(alloc))?;
-    let mut gates: Vec<MemoryGate> = Vec::new(alloc);
-    let mut logs = Vec::new(alloc);
-    let status = run(
+    let mut objects = objects_of(alloc, &unfailing(&[], &[]))?;
+    let status = run_without_gates(
         rt,
         alloc,
         &words,
         source,
-        &mut file,
-        &mut report,
-        &mut gates,
-        &mut outlet,
-        &mut logs,
+        &mut objects.file,
+        &mut objects.report,
+        &mut objects.outlet,
     );
     assert_eq!(rt; status, 3);
-    assert_eq!(rt; report.bytes(), CUT);
+    assert_eq!(rt; objects.report.bytes(), CUT);
     Ok(())
 }
 

@@ -1,4 +1,0 @@
-use Rattle.kk_channel.proofs.tests.so_many_dimensions_are_erased_and_injected.Given as goal
-
-abbrev pub ghosts-passed : goal.ghosts-passed
-ghosts-passed g a = record { name = a.blank.name; parts = a.blank.parts }

@@ -1,6 +1,0 @@
-use Rattle.std.proofs.Common.{◌^◌, ◌<◌, take}
-use Rattle.std.specs.Prelude.{All}
-use Rattle.kk_decode.proofs.tests.message.Given as goal
-
-abbrev pub invariant-loop-symbol : goal.invariant-loop-symbol
-invariant-loop-symbol l = record { below : All (λ s. s < 2 ^ l.code.field.degree) (take l.symbol-index l.symbols) }
