@@ -1,7 +1,7 @@
 -- What callers see of a gate and an outlet over a socket.
 use Rattle.std.specs.Prelude.{ℕ, Bool, true, false, List, None}
 use Rattle.std.specs.declared.io.ErrorKind.{ErrorKind}
-use Rattle.std.specs.declared.io.ErrorKind.TheVariants.{WouldBlock, TimedOut, Interrupted, OutOfMemory}
+use Rattle.std.specs.declared.io.ErrorKind.TheVariants.{WouldBlock, TimedOut, OutOfMemory}
 use Rattle.kk_outside.specs.declared.event.Event.{Event}
 use Rattle.kk_outside.specs.Gate.{GateTold}
 use Rattle.kk_outside.specs.Outlet.{OutletTold, Send}
@@ -25,16 +25,14 @@ gate_told s = record { left = None; events = s.events; overs = 0; faults = s.fau
 abbrev pub outlet_told : UdpOutletState → OutletTold
 outlet_told s = record { sends = s.sends; faults = s.faults }
 
--- a receive brought no datagram: none came in time, or a signal ended the wait
+-- a receive brought no datagram, since none came in time
 abbrev pub is_wait_end : ErrorKind → Bool
 is_wait_end WouldBlock = true
 is_wait_end TimedOut = true
-is_wait_end Interrupted = true
 is_wait_end _ = false
 
--- a send found no room at the moment, or a signal interrupted it
+-- a send found no room at the moment
 abbrev pub is_passing : ErrorKind → Bool
 is_passing WouldBlock = true
-is_passing Interrupted = true
 is_passing OutOfMemory = true
 is_passing _ = false

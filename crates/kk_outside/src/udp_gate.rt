@@ -14,20 +14,19 @@ use crate::{Failed, GATE_BYTES, Gate, Got, OpenFault};
 use std::io;
 use std::io::ErrorKind;
 use std::marker::Model;
-use std::net::{Net, UdpSocket};
-use std::time::Duration;
+use std::net::UdpSocket;
+use std::time::{Clock, Duration};
 
 /// How long a call waits for a datagram, in milliseconds.
 const WAIT_MILLIS: u64 = 100;
 
-/// How often a receive that a signal interrupts is made again.
-const TRIES: u32 = 10;
-
 /// Tells the datagrams that come to a UDP socket, and never that they are over. A call that gets none within 100 ms
-/// tells a quiet, and so does one that signals interrupt again and again. Each other error of the socket is a fault.
+/// tells a quiet. A receive that a signal interrupts is made again, and is neither a quiet nor a fault. Each other error of
+/// the socket is a fault.
 #[derive(Drop)]
 pub struct UdpGate {
     socket: UdpSocket,
+    clock: HostRuntime,
     log: EventLog,
     faults: u64,
 }
@@ -42,12 +41,13 @@ impl Model for UdpGate {
 
 impl UdpGate {
     /// A gate at this address, as `127.0.0.1:9000`. It takes no memory but the system's.
-    pub fn open<R: Net>(rt: &R, address: &str) -> Result<UdpGate, OpenFault>
+    pub fn open(rt: &HostRuntime, address: &str) -> Result<UdpGate, OpenFault>
         ensures { IfOk result (λ g. g ≡ record { events = []; faults = 0 }) }
     {
         match bind(rt, address) {
             Ok(socket) => Ok(UdpGate {
                 socket,
+                clock: *rt,
                 log: EventLog::new(),
                 faults: 0,
             }),
@@ -61,10 +61,36 @@ impl UdpGate {
     {
         self.faults
     }
+
+    /// One datagram, into the front of `buf`. A receive that a signal interrupts is made again until the wait is over by the
+    /// clock, so that signals neither end a wait nor make it last.
+    fn receive(&self, buf: &mut [u8]) -> io::Result<usize>
+        ensures { ReadsAtMost result buf.new }
+    {
+        let began = self.clock.monotonic();
+        for _ in 0..u32::MAX {
+            match self.socket.recv(buf) {
+                Err(e) if e.kind() == ErrorKind::Interrupted && !self.has_waited(&began) => {}
+                Err(e) if e.kind() == ErrorKind::Interrupted => break,
+                outcome => return outcome,
+            }
+        }
+        Err(ErrorKind::TimedOut.into())
+    }
+
+    /// Whether the time of a wait is over that began then, as far as the clock tells.
+    fn has_waited(&self, began: &io::Result<Duration>) -> bool {
+        match (began, self.clock.monotonic()) {
+            (Ok(began), Ok(now)) => {
+                now.saturating_sub(*began) >= Duration::from_millis(WAIT_MILLIS)
+            }
+            _ => false,
+        }
+    }
 }
 
 /// A socket at this address, which waits so long for a datagram and no longer.
-fn bind<R: Net>(rt: &R, address: &str) -> io::Result<UdpSocket> {
+fn bind(rt: &HostRuntime, address: &str) -> io::Result<UdpSocket> {
     let socket = UdpSocket::bind(rt, address)?;
     socket.set_read_timeout(Some(Duration::from_millis(WAIT_MILLIS)))?;
     Ok(socket)
@@ -81,24 +107,11 @@ impl Gate for UdpGate {
         ensures tells { TellsFrom (change (gate_told self.old) (gate_told self.new)) result buf.new }
         ensures cause { HasCause self.old.faults self.new.faults result }
     {
-        let outcome = receive(&self.socket, buf);
+        let outcome = self.receive(buf);
         let answer = answer(outcome, &mut self.faults);
         self.log.add(answer, buf);
         answer
     }
-}
-
-/// One datagram, into the front of `buf`. A receive that a signal interrupts is made again, up to a bound.
-fn receive(socket: &UdpSocket, buf: &mut [u8]) -> io::Result<usize>
-    ensures { ReadsAtMost result buf.new }
-{
-    for _ in 0..TRIES {
-        match socket.recv(buf) {
-            Err(e) if e.kind() == ErrorKind::Interrupted => {}
-            outcome => return outcome,
-        }
-    }
-    socket.recv(buf)
 }
 
 /// The answer to a receive that came out so: an error that says that none came is a quiet, each other one a fault.
@@ -120,13 +133,9 @@ fn answer(outcome: io::Result<usize>, faults: &mut u64) -> Result<Got, Failed>
     }
 }
 
-/// Whether a receive with this error got no datagram, and no more: it waited for as long as it may, or a signal ended the
-/// wait.
+/// Whether a receive with this error got no datagram, and no more: it waited for as long as it may.
 fn ended_wait(e: &io::Error) -> bool
     ensures { result ≡ is_wait_end (error_kind e.now) }
 {
-    matches!(
-        e.kind(),
-        ErrorKind::WouldBlock | ErrorKind::TimedOut | ErrorKind::Interrupted
-    )
+    matches!(e.kind(), ErrorKind::WouldBlock | ErrorKind::TimedOut)
 }

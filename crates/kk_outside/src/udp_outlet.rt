@@ -126,24 +126,32 @@ impl Link {
     fn send(&mut self, datagram: &[u8]) -> io::Result<usize> {
         self.pace.wait(datagram.len());
         for _ in 0..TRIES {
-            match self.socket.send_to(datagram, self.target) {
+            match self.send_now(datagram) {
                 Err(e) if is_passing(&e) => self.pace.rest(),
                 outcome => return outcome,
             }
         }
-        self.socket.send_to(datagram, self.target)
+        self.send_now(datagram)
+    }
+
+    /// Sends this datagram at once. A send that a signal interrupts is made again.
+    fn send_now(&self, datagram: &[u8]) -> io::Result<usize> {
+        for _ in 0..u32::MAX {
+            match self.socket.send_to(datagram, self.target) {
+                Err(e) if e.kind() == ErrorKind::Interrupted => {}
+                outcome => return outcome,
+            }
+        }
+        Err(ErrorKind::Interrupted.into())
     }
 }
 
-/// Whether a send with this error may well come out otherwise soon: a signal interrupted it, or the system had no room.
+/// Whether a send with this error may well come out otherwise soon: the system had no room.
 fn is_passing(e: &io::Error) -> bool
     ensures { IsTrue result ↔ ((raw_os_error e.now ≡ Some ENOBUFS) ⊎ IsTrue (is_passing (error_kind e.now))) }
 {
     e.raw_os_error() == Some(ENOBUFS)
-        || matches!(
-            e.kind(),
-            ErrorKind::WouldBlock | ErrorKind::Interrupted | ErrorKind::OutOfMemory
-        )
+        || matches!(e.kind(), ErrorKind::WouldBlock | ErrorKind::OutOfMemory)
 }
 
 /// The answer to a send that came out so: it is a fault unless the whole datagram was taken.
