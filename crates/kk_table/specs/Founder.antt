@@ -1,6 +1,5 @@
 -- A founder as clauses see it.
-use Rattle.std.specs.Prelude.{◌≡◌, ℕ, ◌+◌, ◌-◌, ◌≤◌, List, [], ◌∷◌, ◌++◌, length, replicate, All, Vec}
-use Rattle.std.proofs.Common.{Global}
+use Rattle.std.specs.Prelude.{◌≡◌, ℕ, ◌+◌, ◌-◌, ◌≤◌, List, [], ◌∷◌, ◌++◌, length, replicate, All}
 use Rattle.atomic_table.specs.Table.{Me}
 use Rattle.kk_machine.specs.Spaces.{unseen}
 use Rattle.kk_machine.specs.Sights.{Seen, logs_of, HaveWidth}
@@ -52,9 +51,9 @@ abbrev pub IsSpare : Shape → List Seen → Type 0
 IsSpare shape seen = IsFresh shape.width shape.generations seen
 
 -- what every founder keeps
-pub record IsFounder (shape : Shape) (me : Me (Unit {0}) View) (passes given taken : ℕ) (spare : List (Vec Seen Global)) : Type 0 where
+pub record IsFounder (shape : Shape) (me : Me (Unit {0}) View) (passes given taken : ℕ) (spare : List (List Seen)) : Type 0 where
   pub knows : me ≡ (Founder shape.generations given (records_in me.0), [])
   pub counted : length (records_in me.0) ≡ taken
   pub within : taken ≤ given
   pub few : given ≤ passes
-  pub spares : All (λ v. IsSpare shape v.items) spare
+  pub spares : All (IsSpare shape) spare

@@ -1,15 +1,18 @@
 //! Who gives the passes of a table, and takes them back.
-ghost use Rattle.std.specs.Prelude.{◌≡◌, ◌+◌, ◌-◌, ◌<◌, ◌≤◌, ◌↔◌, length, Err, All, IsOk, IfOk, OnOk, OnErr};
+ghost use Rattle.std.specs.Prelude.{◌≡◌, ◌+◌, ◌-◌, ◌<◌, ◌≤◌, ◌↔◌, length, Err, IfOk, OnOk, OnErr};
+ghost use Rattle.std.specs.Box.{boxed_slice_items};
 ghost use Rattle.kk_machine.specs.declared.log.TheConstants.{MAX_WIDTH};
 ghost use Rattle.kk_table.specs.Rule.{newcomer};
 ghost use Rattle.kk_table.specs.Founder.{IsSpare, founder_reserved, founder_gave, founder_took};
 
 use super::rule::{Count, Given, Taken};
+use super::spares::Spares;
 use super::{GenTable, NoPass, Pass, Shape, View};
 use atomic_table::Seat;
 use kk_machine::Sight;
 use kk_rows::Alloc;
 use std::alloc::Global;
+use std::boxed::BoxedSlice;
 use std::marker::Model;
 
 /// Who gives the passes of a table, and takes them back.
@@ -23,7 +26,7 @@ pub struct Founder {
     pub(crate) passes: u32,
     pub(crate) given: u32,
     pub(crate) taken: u32,
-    pub(crate) spare: Vec<Vec<Sight>>,
+    pub(crate) spare: Spares,
 }
 
 impl Model for Founder {
@@ -32,41 +35,21 @@ impl Model for Founder {
 
     ghost Value = { FounderView };
 
-    ghost view = { λ f. record { table = record { id = f.seat.table_id; shape = f.shape }; passes = f.passes; given = f.given; records = records_in f.seat.me.0; spare = length f.spare.items } };
+    ghost view = { λ f. record { table = record { id = f.seat.table_id; shape = f.shape }; passes = f.passes; given = f.given; records = records_in f.seat.me.0; spare = length f.spare } };
 
-    ghost invariant = { λ f. IsFounder f.shape f.seat.me f.passes f.given f.taken f.spare.items };
+    ghost invariant = { λ f. IsFounder f.shape f.seat.me f.passes f.given f.taken f.spare };
 }
 
 /// The storage of a pass that has seen nothing.
-pub(crate) fn storage(alloc: Global, shape: Shape) -> Result<Vec<Sight>, Alloc>
+pub(crate) fn storage(alloc: Global, shape: Shape) -> Result<BoxedSlice<Sight>, Alloc>
     requires width { (0 < shape.width) × (shape.width ≤ MAX_WIDTH) }
-    ensures { IfOk result (λ v. IsSpare shape v.items) }
+    ensures { IfOk result (λ s. IsSpare shape (boxed_slice_items s)) }
 {
     let mut seen = Vec::with_capacity(alloc, shape.generations as usize)?;
     for _ in 0..shape.generations {
         seen.push(Sight::new(shape.width))?;
     }
-    Ok(seen)
-}
-
-/// A storage that is reserved, or a new one where none is.
-fn take_storage(
-    spare: &mut Vec<Vec<Sight>>,
-    alloc: Global,
-    shape: Shape,
-) -> Result<Vec<Sight>, Alloc>
-    requires width { (0 < shape.width) × (shape.width ≤ MAX_WIDTH) }
-    requires spares { All (λ v. IsSpare shape v.items) spare.old.items }
-    ensures fresh { IfOk result (λ v. IsSpare shape v.items) }
-    ensures spares { All (λ v. IsSpare shape v.items) spare.new.items }
-    ensures reserved { 0 < length spare.old.items → IsOk result }
-    ensures taken { OnOk result (length spare.new.items ≡ length spare.old.items - 1) }
-    ensures err { OnErr result (length spare.new.items ≡ length spare.old.items) }
-{
-    match spare.pop() {
-        Some(seen) => Ok(seen),
-        None => storage(alloc, shape),
-    }
+    Ok(seen.into_boxed_slice())
 }
 
 impl Founder {
@@ -83,12 +66,11 @@ impl Founder {
         ensures ok { OnOk result (self.new ≡ founder_reserved self.old) }
         ensures err { OnErr result (self.new ≡ self.old) }
     {
-        let seen = storage(alloc, table.shape())?;
-        self.spare.push(seen)?;
-        Ok(())
+        let storage = storage(alloc, table.shape())?;
+        self.spare.add(alloc, storage)
     }
 
-    /// Gives a pass, with a storage that is reserved where there is one. All its storage is taken here.
+    /// Gives a pass, with a storage that is reserved where there is one, and else with a new one.
     ///
     /// # Errors
     ///
@@ -102,10 +84,33 @@ impl Founder {
         ensures alloc { result ≡ Err NoPass.Alloc → self.old.spare ≡ 0 }
         ensures err { OnErr result (self.new ≡ self.old) }
     {
+        if self.given < self.passes
+            && self.spare.len() == 0
+            && self.reserve(alloc, table).is_err()
+        {
+            return Err(NoPass::Alloc);
+        }
+        self.pass_reserved(table)
+    }
+
+    /// Gives a pass with a storage that is reserved. It takes no memory: nothing in its reach gives any.
+    ///
+    /// # Errors
+    ///
+    /// [`NoPass::AllGiven`] as [`Founder::pass`], and else [`NoPass::Alloc`] exactly where no storage is reserved. No
+    /// number is used up then.
+    pub fn pass_reserved(&mut self, table: &GenTable) -> Result<Pass, NoPass>
+        requires table { self.old.table ≡ table.now }
+        ensures pass { IfOk result (λ p. (p.table ≡ table.now) × (p.known ≡ newcomer table.now.shape.generations self.old.given self.old.records)) }
+        ensures founder { OnOk result (self.new ≡ founder_gave self.old) }
+        ensures all_given { (result ≡ Err NoPass.AllGiven) ↔ (self.old.given ≡ self.old.passes) }
+        ensures unreserved { (result ≡ Err NoPass.Alloc) ↔ ((self.old.given < self.old.passes) × (self.old.spare ≡ 0)) }
+        ensures err { OnErr result (self.new ≡ self.old) }
+    {
         if self.given == self.passes {
             return Err(NoPass::AllGiven);
         }
-        let Ok(seen) = take_storage(&mut self.spare, alloc, table.shape()) else {
+        let Some(seen) = self.spare.take() else {
             return Err(NoPass::Alloc);
         };
         let seat = table.shared().split_seat::<Given>(&mut self.seat);

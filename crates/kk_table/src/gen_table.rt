@@ -13,6 +13,7 @@ ghost use Rattle.kk_table.specs.Answers.{insert_reply, freeze_reply, InsertTold,
 
 use super::founder::storage;
 use super::rule::Kept;
+use super::spares::Spares;
 use super::steps::probe;
 use super::{Founder, Freeze, Inserted, Pass, Shape, View};
 use atomic_table::{Shared, Table};
@@ -20,6 +21,7 @@ use kk_code::Ticket;
 use kk_machine::{Call, Reply, Sight};
 use kk_rows::{Alloc, Row};
 use std::alloc::Global;
+use std::boxed::BoxedSlice;
 use std::marker::Model;
 
 /// A table of row spaces that threads share, one for each generation.
@@ -31,10 +33,11 @@ use std::marker::Model;
 pub struct GenTable {
     pub(crate) table: Table<(), View, Shape, Kept, Global>,
     pub(crate) shape: Shape,
-    pub(crate) logs: Vec<Sight>,
+    pub(crate) logs: BoxedSlice<Sight>,
 }
 
 impl Model for GenTable {
+    ghost use Rattle.std.specs.Box.{boxed_slice_items};
     ghost use Rattle.kk_table.specs.Table.{TableView, IsTable};
     ghost use Rattle.kk_table.specs.Founder.{IsSpare};
 
@@ -42,7 +45,7 @@ impl Model for GenTable {
 
     ghost view = { λ t. record { id = t.table.shared.table_id; shape = t.shape } };
 
-    ghost invariant = { λ t. IsTable t.shape t.table.shared.key t.table.shared.table_id × IsSpare t.shape t.logs.items };
+    ghost invariant = { λ t. IsTable t.shape t.table.shared.key t.table.shared.table_id × IsSpare t.shape (boxed_slice_items t.logs) };
 }
 
 impl GenTable {
@@ -78,7 +81,7 @@ impl GenTable {
             passes,
             given: 0,
             taken: 0,
-            spare: Vec::new(alloc),
+            spare: Spares::new(alloc),
         };
         Ok((GenTable { table, shape, logs }, founder))
     }

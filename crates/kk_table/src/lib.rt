@@ -8,6 +8,7 @@ mod gen_table;
 mod logs;
 mod pass;
 mod rule;
+mod spares;
 mod steps;
 mod view;
 

@@ -12,6 +12,7 @@ use atomic_table::Closed;
 use kk_machine::{CLOSED, Sight};
 use kk_rows::Row;
 use std::alloc::Global;
+use std::boxed::BoxedSlice;
 use std::marker::Model;
 use std::snapshot::Snapshot;
 
@@ -22,19 +23,20 @@ use std::snapshot::Snapshot;
 #[derive(Drop)]
 pub struct Logs {
     shape: Shape,
-    logs: Vec<Sight>,
+    logs: BoxedSlice<Sight>,
     founder: Snapshot<Founder>,
 }
 
 impl Model for Logs {
+    ghost use Rattle.std.specs.Box.{boxed_slice_items};
     ghost use Rattle.kk_machine.specs.Sights.{logs_of};
     ghost use Rattle.kk_table.specs.Logs.{LogsView, IsLogs};
 
     ghost Value = { LogsView };
 
-    ghost view = { λ l. record { shape = l.shape; records = l.founder.value.records; logs = logs_of l.logs.items } };
+    ghost view = { λ l. record { shape = l.shape; records = l.founder.value.records; logs = logs_of (boxed_slice_items l.logs) } };
 
-    ghost invariant = { λ l. IsLogs l.shape l.founder.value.records (logs_of l.logs.items) };
+    ghost invariant = { λ l. IsLogs l.shape l.founder.value.records (logs_of (boxed_slice_items l.logs)) };
 }
 
 /// Some passes weren't taken back, so the table isn't finished.

@@ -9,6 +9,7 @@ use super::{Shape, View};
 use atomic_table::Seat;
 use kk_machine::Sight;
 use kk_rows::{Row, RowSpace};
+use std::boxed::BoxedSlice;
 use std::marker::Model;
 
 /// A thread's way into a table: the calls of [`crate::GenTable`] are made through one.
@@ -20,17 +21,18 @@ pub struct Pass {
     pub(crate) seat: Seat<(), View>,
     pub(crate) shape: Shape,
     pub(crate) number: u32,
-    pub(crate) seen: Vec<Sight>,
+    pub(crate) seen: BoxedSlice<Sight>,
 }
 
 impl Model for Pass {
+    ghost use Rattle.std.specs.Box.{boxed_slice_items};
     ghost use Rattle.kk_table.specs.Pass.{PassView, known_in, IsPass};
 
     ghost Value = { PassView };
 
     ghost view = { λ p. record { table = record { id = p.seat.table_id; shape = p.shape }; known = known_in p.seat.me.0 } };
 
-    ghost invariant = { λ p. IsPass p.shape p.number p.seat.me p.seen.items };
+    ghost invariant = { λ p. IsPass p.shape p.number p.seat.me (boxed_slice_items p.seen) };
 }
 
 impl Pass {

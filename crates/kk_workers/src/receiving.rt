@@ -69,7 +69,6 @@ fn gather<R: Threads + Sync, G: Gate + Send>(
     } = Station::new(alloc, ticket, gates.len())?;
     let generations = ticket.generations();
     hire(
-        alloc,
         &mut founder,
         &table,
         gates,
@@ -86,7 +85,7 @@ fn gather<R: Threads + Sync, G: Gate + Send>(
         &mut counts,
         &mut rooms,
     );
-    let Ok(mut closing) = founder.pass(alloc, &table) else {
+    let Ok(mut closing) = founder.pass_reserved(&table) else {
         unreachable!()
     };
     close_all(&table, &mut closing, generations, &rooms);

@@ -13,7 +13,6 @@ use kk_code::Ticket;
 use kk_frame::GateCount;
 use kk_outside::Gate;
 use kk_table::{Founder, GenTable};
-use std::alloc::Global;
 use std::thread;
 use std::thread::Threads;
 
@@ -45,7 +44,6 @@ pub(crate) fn run_all<R: Threads + Sync, G: Gate + Send>(
 
 /// Gives each gate a worker with a pass, in order.
 pub(crate) fn hire<G: Gate + Send>(
-    alloc: Global,
     founder: &mut Founder,
     table: &GenTable,
     gates: &mut Vec<G>,
@@ -69,7 +67,7 @@ pub(crate) fn hire<G: Gate + Send>(
     for i in 0..gates.len() {
         let gate = gates.remove(0);
         let answers = rooms.remove(0);
-        let Ok(pass) = founder.pass(alloc, table) else {
+        let Ok(pass) = founder.pass_reserved(table) else {
             unreachable!()
         };
         workers.push_reserved(Worker::of(pass, gate, answers));

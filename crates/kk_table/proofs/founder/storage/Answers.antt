@@ -1,4 +1,4 @@
-use Rattle.std.proofs.Common.{◌≡◌, ℕ, subst, arith}
+use Rattle.std.proofs.Common.{◌≡◌, ℕ, sym, subst, arith}
 use Rattle.kk_table.specs.Founder.{IsFresh}
 use Rattle.kk_table.proofs.Storages.{fresh_more, fresh_none}
 use Rattle.kk_table.proofs.founder.storage.Goals as goal
@@ -12,4 +12,5 @@ loop-preserved c = fresh_more _ _ _ _ _ c.in_ok-push.ensures.items c.loop.invari
 pub returns : goal.returns
 returns c =
     let done : c.loop.counter ≡ c.args.shape.generations = omega (arith, c.loop-test.false, c.loop.auto) in
-    subst (λ (n : ℕ). IsFresh c.args.shape.width n c.loop.seen.items) done c.loop.invariant
+    subst (IsFresh c.args.shape.width c.args.shape.generations) (sym c.into_boxed_slice.ensures.items)
+    (subst (λ (n : ℕ). IsFresh c.args.shape.width n c.loop.seen.items) done c.loop.invariant)

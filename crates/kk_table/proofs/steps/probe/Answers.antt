@@ -1,4 +1,4 @@
-use Rattle.std.proofs.Common.{ℕ, ◌^◌, ◌<◌, ◌≤◌, sym, subst, arith}
+use Rattle.std.proofs.Common.{ℕ, ◌^◌, ◌<◌, ◌≤◌, arith}
 use Rattle.std.proofs.Math.Pow.{pow_mono}
 use Rattle.kk_machine.specs.declared.call.Call.{Call}
 use Rattle.kk_machine.specs.declared.call.Call.TheVariants.{Insert, Freeze, Peek}

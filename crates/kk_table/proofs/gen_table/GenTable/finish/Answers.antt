@@ -1,4 +1,5 @@
 use Rattle.std.proofs.Common.{◌≡◌, ◌∙◌, ℕ, sym, ap, subst, arith}
+use Rattle.std.specs.Box.{boxed_slice_items}
 use Rattle.std.specs.Mem.Slots.{slots_items}
 use Rattle.kk_machine.specs.History.{log_of}
 use Rattle.kk_machine.specs.Sights.{logs_of}
@@ -24,5 +25,5 @@ invariant_of-result c =
     let end = finished _ c.self.inside.shape c.founder.inside.shape _ _ _ _ _ _ c.args.founder c.self.invariant.0.keyed one c.founder.invariant.knows
     (ap (λ (f : FounderView). f.given) c.founder.view_is) (ap (λ (f : FounderView). f.records) c.founder.view_is) c.out-out.ensures c.if-out-gt0.false c.close_with-closed.ensures.values.2 in
     let done : c.loop-generation.generation ≡ c.self.inside.shape.generations = omega (arith, c.loop-generation-test.false, c.loop-generation.auto) in
-    subst (λ (f : FounderView). IsLogs c.self.inside.shape f.records (logs_of c.loop-generation.logs.items)) (c.founder.view_is ∙ sym c.of-kept.ensures)
-    (all_read _ _ _ _ c.self.invariant.0.fits end (subst (λ (n : ℕ). IsRead c.self.inside.shape (slots_items c.close_with-closed.result.words) n c.loop-generation.logs.items) done c.loop-generation.invariant))
+    subst (λ (f : FounderView). IsLogs c.self.inside.shape f.records (logs_of (boxed_slice_items c.loop-generation.logs))) (c.founder.view_is ∙ sym c.of-kept.ensures)
+    (all_read _ _ _ _ c.self.invariant.0.fits end (subst (λ (n : ℕ). IsRead c.self.inside.shape (slots_items c.close_with-closed.result.words) n (boxed_slice_items c.loop-generation.logs)) done c.loop-generation.invariant))

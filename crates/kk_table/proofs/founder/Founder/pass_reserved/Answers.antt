@@ -4,7 +4,7 @@ use Rattle.kk_table.specs.declared.view.View.{View}
 use Rattle.kk_table.specs.Founder.{FounderView}
 use Rattle.kk_table.specs.Table.{TableView}
 use Rattle.kk_table.proofs.Seats.{gives_as}
-use Rattle.kk_table.proofs.founder.Founder.pass.Goals as goal
+use Rattle.kk_table.proofs.founder.Founder.pass_reserved.Goals as goal
 
 pub split_seat-seat-requires : goal.split_seat-seat-requires
 split_seat-seat-requires c =
