@@ -14,7 +14,7 @@ use std::fmt;
 pub enum WordsFault {
     /// The words are not of a command's form.
     Words,
-    /// No memory. Any call may answer it, whatever the words are.
+    /// No memory. It is answered only where the first word names the command.
     Alloc,
 }
 

@@ -4,7 +4,7 @@ ghost use Rattle.clap.specs.Matches.{found_of};
 ghost use Rattle.clap.specs.Simple.{app_of};
 ghost use Rattle.clap.specs.Walk.{Text, rows_of};
 ghost use Rattle.kk_forms.specs.Form.{app_of_form, argument_of, form_of, is_sound, name_of};
-ghost use Rattle.kk_forms.specs.Request.{HasTexts, all_texts_at, has_option, has_sure_number, number_at, number_given, numbers_in, options_in, request_by, text_at, texts_in, under};
+ghost use Rattle.kk_forms.specs.Request.{HasTexts, all_texts_at, has_option, has_sure_number, number_at, number_given, is_named, numbers_in, options_in, request_by, text_at, texts_in, under};
 
 use crate::fault::fault_of;
 use crate::{Argument, Form, Request, WordsFault};
@@ -19,18 +19,39 @@ impl Form {
         requires { IsTrue (is_sound (form_of self.now)) }
         ensures given { IfOk result (λ given. request_by (form_of self.now) (map string_bytes words.now) ≡ Some given) }
         ensures refused { result ≡ Err WordsFault.Words → request_by (form_of self.now) (map string_bytes words.now) ≡ None }
+        ensures memory { result ≡ Err WordsFault.Alloc → IsTrue (is_named (form_of self.now) (map string_bytes words.now)) }
 
         // Each word has a text; each required option is there, and so is each number that has a default or is a word.
         ensures texts { IfOk result (λ given. HasTexts (form_of self.now) (length given.texts)) }
         ensures options { IfOk result (λ given. (name : Text) → IsTrue (has_option (form_of self.now) name) → IsSome (under given.options name)) }
         ensures numbers { IfOk result (λ given. (name : Text) → IsTrue (has_sure_number (form_of self.now) name) → IsSome (under given.numbers name)) }
     {
-        let Some(first) = words.first() else {
-            return Err(WordsFault::Words);
-        };
-        if self.name != first.as_str() {
+        if !self.is_named(words) {
             return Err(WordsFault::Words);
         }
+        self.read_named(alloc, words)
+    }
+
+    /// Whether the first word is the form's name.
+    fn is_named(&self, words: &[String]) -> bool
+        ensures { result ≡ is_named (form_of self.now) (map string_bytes words.now) }
+    {
+        match words.first() {
+            Some(first) => self.name == first.as_str(),
+            None => false,
+        }
+    }
+
+    /// What the words ask for by this form, whose name the first one is.
+    fn read_named(&self, alloc: Global, words: &[String]) -> Result<Request, WordsFault>
+        requires sound { IsTrue (is_sound (form_of self.now)) }
+        requires named { IsTrue (is_named (form_of self.now) (map string_bytes words.now)) }
+        ensures given { IfOk result (λ given. request_by (form_of self.now) (map string_bytes words.now) ≡ Some given) }
+        ensures refused { result ≡ Err WordsFault.Words → request_by (form_of self.now) (map string_bytes words.now) ≡ None }
+        ensures texts { IfOk result (λ given. HasTexts (form_of self.now) (length given.texts)) }
+        ensures options { IfOk result (λ given. (name : Text) → IsTrue (has_option (form_of self.now) name) → IsSome (under given.options name)) }
+        ensures numbers { IfOk result (λ given. (name : Text) → IsTrue (has_sure_number (form_of self.now) name) → IsSome (under given.numbers name)) }
+    {
         let app = self.clap_command(alloc)?;
         let matches = match app.try_get_matches_from(words) {
             Ok(matches) => matches,

@@ -10,7 +10,7 @@ use Rattle.clap.specs.Walk.{Text}
 use Rattle.kk_code.specs.Ticket.{TicketFields}
 use Rattle.kk_code.specs.TicketText.{ticket_of}
 use Rattle.kk_code.specs.declared.fault.TicketFault.{TicketFault}
-use Rattle.kk_forms.specs.Form.{is_sound as has_sound_words}
+use Rattle.kk_forms.specs.Form.{Form, is_sound as has_sound_words}
 use Rattle.kk_forms.specs.Request.{Request, has_option, is_named, is_of_form, matches_by, request_by, request_from, under}
 use Rattle.kk_forms.proofs.Matches.{find_seen}
 use Rattle.kk_order.specs.declared.bound.TheConstants.{MAX_NAME_BYTES}
@@ -166,6 +166,15 @@ broken_fits form order cause sound e =
     (λ bound. short_found (is_outside order) form.bounds bound (sound_parts form sound).1) (sym e)
 
 -- ---- the first word
+
+-- words that ask for something by a form begin with its name
+pub found_named : (form : Form) (words : List Text) (found : Request) → request_by form words ≡ Some found → is_named form words ≡ true
+unfolding is_of_form
+found_named form words found some = (both_true (is_named form words) _ (go (is_of_form form words) some)).0
+  where
+    go : (of : Bool) → cond of (Some (request_from form (matches_by form words))) None ≡ Some found → of ≡ true
+    go true e = refl
+    go false e = absurd (true≢false (sym (ap is_some e)))
 
 -- words that have an order are of its form
 ordered_of_form : (form : OrderForm) (words : List Text) (order : Order) → order_of form words ≡ Ok order → is_of_form form.words words ≡ true

@@ -6,13 +6,13 @@ use Rattle.std.proofs.lemmas.Bool.{false≢true}
 use Rattle.std.proofs.lemmas.Option.{same_Some, option_and_then_some}
 use Rattle.kk_words.specs.declared.command.Command.{Command}
 use Rattle.kk_words.specs.declared.command.Command.TheVariants.{Plan, Pack, Unpack, Send, Relay, Recv, Sim}
-use Rattle.kk_words.specs.Commands.{command_named, form_of}
+use Rattle.kk_words.specs.Commands.{command_named, form_of, named_in}
 use Rattle.kk_forms.specs.Form.{Form}
 use Rattle.kk_forms.specs.Request.{is_named}
 use Rattle.kk_order.specs.Order.{Order, OrderForm, order_of}
 use Rattle.kk_order.proofs.Orders.{ordered_named}
 use Rattle.kk_words.specs.Request.{Request, request_of, request_for, request_from, is_of_form, matches_for}
-use Rattle.kk_order.specs.Words.{IsRequestFor, AreNotOfForm, named_in}
+use Rattle.kk_order.specs.Words.{IsRequestFor, AreNotOfForm}
 
 some_request : (b : Bool) (one other : Request) → cond b (Some one) None ≡ Some other → one ≡ other
 some_request true one other is = same_Some _ _ is
@@ -21,11 +21,10 @@ some_request false one other is = absurd (false≢true (ap is_some is))
 -- words that ask something of a command name it
 pub named_of : (words : List (List ℕ)) (command : Command) (request : Request) → IsRequestFor words command request → named_in words ≡ Some command
 unfolding request_of request_from
-named_of [] command request asked = absurd (false≢true (ap is_some asked.given))
-named_of (first ∷ others) command request asked =
-    option_and_then_some (λ named. request_for named (first ∷ others)) (command_named first) request asked.given
+named_of words command request asked =
+    option_and_then_some (λ named. request_for named words) (named_in words) request asked.given
     (λ named is given.
-    let same = some_request (is_of_form named (first ∷ others)) (request_from named (matches_for named (first ∷ others))) request given in
+    let same = some_request (is_of_form named words) (request_from named (matches_for named words)) request given in
     is ∙ ap Some (ap (λ r. r.command) same ∙ asked.named))
 
 -- words that name another command, or none, ask nothing of this one

@@ -1,13 +1,7 @@
 -- What the words ask of a command.
-use Rattle.std.specs.Prelude.{◌≡◌, ℕ, List, [], ◌∷◌, Option, Some, None}
+use Rattle.std.specs.Prelude.{◌≡◌, ℕ, List, Some}
 use Rattle.kk_words.specs.declared.command.Command.{Command}
-use Rattle.kk_words.specs.Commands.{command_named}
 use Rattle.kk_words.specs.Request.{Request, request_of}
-
--- the command that the first word names
-abbrev pub named_in : List (List ℕ) → Option Command
-named_in [] = None
-named_in (first ∷ others) = command_named first
 
 -- The words are of the command's form, and this is what they ask.
 pub record IsRequestFor (words : List (List ℕ)) (command : Command) (request : Request) : Type 0 where

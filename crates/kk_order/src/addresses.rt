@@ -1,5 +1,6 @@
 //! The addresses that words name.
-ghost use Rattle.std.specs.Prelude.{◌≡◌, None, Some, IfOk, drop, length, map, option_map, string_bytes};
+ghost use Rattle.std.specs.Prelude.{◌≡◌, None, Some, IfOk, IsSome, drop, length, map, option_map, string_bytes};
+ghost use Rattle.kk_words.specs.Commands.{named_in};
 ghost use Rattle.kk_words.specs.Request.{HasTexts};
 ghost use Rattle.kk_report.specs.Command.{texts};
 ghost use Rattle.kk_order.specs.Places.{listen_in, places_of, target_in};
@@ -52,6 +53,7 @@ impl Addresses {
 pub fn places(alloc: Global, words: &[String]) -> Result<Addresses, WordsFault>
     ensures named { IfOk result (λ places. places_of (texts words.now) ≡ Some places) }
     ensures refused { result ≡ Err WordsFault.Words → places_of (texts words.now) ≡ None }
+    ensures memory { result ≡ Err WordsFault.Alloc → IsSome (named_in (texts words.now)) }
 {
     let asked = match read_words(alloc, words) {
         Ok(asked) => asked,

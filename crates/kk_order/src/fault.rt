@@ -18,7 +18,7 @@ pub enum OrderFault {
     Range(&'static str),
     /// There are more addresses than the form has listeners.
     Listen,
-    /// There is no memory. Any words may be refused for it.
+    /// There is no memory. It is answered only where the first word is the form's name.
     Memory,
 }
 

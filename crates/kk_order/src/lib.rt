@@ -15,7 +15,7 @@ pub use fault::OrderFault;
 pub use order::Order;
 pub use order_form::{OrderForm, TicketPlace};
 pub use refuse::refuse_words;
-pub use words::{DATAGRAMS_LIMIT, QUIETS_LIMIT, asked_of, command_in, seed_in};
+pub use words::{DATAGRAMS_LIMIT, QUIETS_LIMIT, asked_of, seed_in};
 
 #[cfg(test)]
 mod tests;

@@ -5,7 +5,7 @@ ghost use Rattle.clap.specs.Walk.{Text};
 ghost use Rattle.kk_code.specs.TicketText.{IsTicket, ticket_of};
 ghost use Rattle.kk_code.specs.declared.fault.TicketFault.{TicketFault};
 ghost use Rattle.kk_forms.specs.Form.{argument_of, form_of};
-ghost use Rattle.kk_forms.specs.Request.{HasTexts, has_option, has_sure_number, is_option, under};
+ghost use Rattle.kk_forms.specs.Request.{HasTexts, has_option, has_sure_number, is_named, is_option, under};
 ghost use Rattle.kk_report.specs.Command.{texts};
 ghost use Rattle.kk_order.specs.Order.{AreKept, Cause, FitsLine, IsRefusedFor, is_sound, cause_of, first_broken, has_too_many, lacks_seed, order_form_of, order_of, parts_text, seed_name, ticket_text_in};
 ghost use Rattle.kk_order.specs.declared.fault.OrderFault.TheVariants as why;
@@ -50,11 +50,12 @@ impl OrderForm {
     /// # Errors
     ///
     /// The first of these that holds: the words are not of the form, the text of the ticket is none, the seed is none, a number
-    /// is out of its range, there are too many addresses. And `Memory`, to any words.
+    /// is out of its range, there are too many addresses. And `Memory`, to words whose first is the form's name.
     pub fn read(&self, alloc: Global, words: &[String]) -> Result<Order, OrderFault>
         requires { IsTrue (is_sound (order_form_of self.now)) }
         ensures ordered { IfOk result (λ order. order_of (order_form_of self.now) (texts words.now) ≡ Ok order) }
         ensures refused { IfErr result (λ fault. IsRefusedFor (order_of (order_form_of self.now) (texts words.now)) (cause_of fault)) }
+        ensures memory { result ≡ Err why.Memory → IsTrue (is_named (form_of self.now.words) (texts words.now)) }
         ensures line { IfErr result (λ fault. FitsLine (cause_of fault)) }
 
         // Each word has a text, at most so many after the ticket's, which is one; the seed is there, where the form has one, and so is each

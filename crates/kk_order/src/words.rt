@@ -4,7 +4,7 @@ ghost use Rattle.kk_words.specs.Arguments.{default_of};
 ghost use Rattle.kk_words.specs.Request.{HasTexts, has_number, has_place, has_seed, number_of};
 ghost use Rattle.kk_report.specs.Command.{texts};
 ghost use Rattle.kk_order.specs.Seed.{seed_of};
-ghost use Rattle.kk_order.specs.Words.{IsRequestFor, AreNotOfForm, named_in};
+ghost use Rattle.kk_order.specs.Words.{IsRequestFor, AreNotOfForm};
 
 use hex::FromHex;
 use kk_report::Refusal;
@@ -16,13 +16,6 @@ pub const QUIETS_LIMIT: u64 = 1_000_000;
 
 /// The most datagrams that `--most` may name.
 pub const DATAGRAMS_LIMIT: u64 = 100_000_000;
-
-/// The command that the first word names.
-pub fn command_in(words: &[String]) -> Option<Command>
-    ensures { result ≡ named_in (texts words.now) }
-{
-    Command::named(words.first()?.as_str())
-}
 
 /// What the words ask of this command.
 pub fn asked_of(alloc: Global, words: &[String], command: Command) -> Result<Asked, Refusal>

@@ -2,7 +2,7 @@
 use Rattle.std.specs.Prelude.{Bool, true, false, List, ℕ, Option, Some, None}
 use Rattle.kk_words.specs.declared.command.Command.{Command}
 use Rattle.kk_words.specs.declared.command.Command.TheVariants.{Plan, Pack, Unpack, Send, Relay, Recv, Sim}
-use Rattle.kk_order.specs.Words.{named_in}
+use Rattle.kk_words.specs.Commands.{named_in}
 
 -- what may be called or added to, beside the report, which every run writes: the source, the sink of the file, the gates, the
 -- outlet, and the logs

@@ -6,7 +6,6 @@ ghost use Rattle.kk_workers.specs.Received.{changes};
 ghost use Rattle.kk_report.specs.Command.{texts, IsRefusalOfWords, RanThrough};
 ghost use Rattle.kk_run_recv.specs.Receiver.{received};
 ghost use Rattle.kk_report.specs.Refusal.{IsRefused};
-ghost use Rattle.kk_order.specs.Words.{named_in};
 ghost use Rattle.kk_run_pack.specs.Pack.{Packs};
 ghost use Rattle.kk_run_plan.specs.Plan.{Plans, plan_form};
 ghost use Rattle.kk_run_relay.specs.Relay.{Relays};
@@ -15,10 +14,10 @@ ghost use Rattle.kk_run_send.specs.Send.{Sends};
 ghost use Rattle.kk_run_sim.specs.Sim.{Simulates};
 ghost use Rattle.kk_order.specs.Order.{Order, order_of};
 ghost use Rattle.kk_run_unpack.specs.Unpack.{Unpacks, UnpacksBy, max_pieces, unpacked};
+ghost use Rattle.kk_words.specs.Commands.{named_in};
 ghost use Rattle.kk_workers.specs.declared.running.TheConstants.{MAX_GATES};
 ghost use Rattle.kk_top.specs.Ends.{uses};
 
-use kk_order::command_in;
 use kk_outside::{Gate, Outlet, Sink, Source};
 use kk_report::{Refusal, refuse};
 use kk_run_pack::run_pack;
@@ -29,7 +28,7 @@ use kk_run_send::run_send;
 use kk_run_sim::run_sim;
 use kk_run_unpack::run_unpack;
 use kk_table::Logs;
-use kk_words::Command;
+use kk_words::{Command, command_in};
 use std::alloc::Global;
 use std::thread::Threads;
 

@@ -1,7 +1,6 @@
 -- What a request for a command has, from what is found by the command's form.
-use Rattle.std.proofs.Common.{◌≡◌, ◌∙◌, Bool, true, false, not, cond, ◌||◌, refl, sym, ap, List, [], ◌∷◌, map, Some, None, Result, Err, is_some, true≢false}
-use Rattle.std.specs.Prelude.{String, string_bytes, option_and_then, option_map, slice_get}
-use Rattle.std.specs.declared.alloc.Global.{Global}
+use Rattle.std.proofs.Common.{◌≡◌, ◌∙◌, Bool, true, false, not, cond, ◌||◌, refl, sym, ap, List, [], ◌∷◌, map, Option, Some, None, Result, Err, is_some, true≢false}
+use Rattle.std.specs.Prelude.{option_and_then, option_map}
 use Rattle.clap.specs.Walk.{Text}
 use Rattle.kk_forms.specs.Request.{Request as Found, has_sure_number, is_of_form as is_of, matches_by, request_by, request_from as found_from}
 use Rattle.kk_forms.specs.declared.fault.WordsFault.{WordsFault}
@@ -10,23 +9,24 @@ use Rattle.kk_words.specs.declared.argument.Name.TheVariants.{Extra}
 use Rattle.kk_words.specs.declared.command.Command.{Command}
 use Rattle.kk_words.specs.declared.command.Command.TheVariants.{Plan}
 use Rattle.kk_words.specs.Arguments.{default_of, text_of_name}
-use Rattle.kk_words.specs.Commands.{command_named, form_of}
-use Rattle.kk_words.specs.Request.{has_number, has_place, is_of_form, matches_for, request_for, request_from, request_of, request_with}
+use Rattle.kk_words.specs.Commands.{form_of, named_in}
+use Rattle.kk_words.specs.Request.{Request, has_number, has_place, is_of_form, matches_for, request_for, request_from, request_of, request_with}
 
 -- ---- the first word
 
-pub request_of_none : (words : List (String Global)) → None ≡ slice_get words 0 → request_of (map string_bytes words) ≡ None
+pub request_named : (words : List Text) (named : Option Command) → named ≡ named_in words
+    → request_of words ≡ option_and_then (λ command. request_for command words) named
 unfolding request_of
-request_of_none [] e = refl
-request_of_none (w ∷ words) e = cc
+request_named words named e = ap (option_and_then (λ command. request_for command words)) (sym e)
 
-pub request_of_first : (words : List (String Global)) (w : String Global) (first : Text) → Some w ≡ slice_get words 0 → first ≡ string_bytes w
-    → request_of (map string_bytes words) ≡ option_and_then (λ command. request_for command (map string_bytes words)) (command_named first)
+-- words that ask for something name a command
+pub request_is_named : (words : List Text) (request : Request) → request_of words ≡ Some request → is_some (named_in words) ≡ true
 unfolding request_of
-request_of_first [] w first e same = cc
-request_of_first (x ∷ words) w first e same =
-    let here : w ≡ x = cc in
-    ap (λ t. option_and_then (λ command. request_for command (map string_bytes (x ∷ words))) (command_named t)) (ap string_bytes (sym here) ∙ sym same)
+request_is_named words request asked = go (named_in words) asked
+  where
+    go : (named : Option Command) → option_and_then (λ command. request_for command words) named ≡ Some request → is_some named ≡ true
+    go (Some command) e = refl
+    go None e = absurd (true≢false (sym (ap is_some e)))
 
 -- an error is the same whatever there is where there is none
 pub same_fault : {T U : Type 0} (f g : WordsFault) → ◌≡◌ {A = Result T WordsFault} (Err f) (Err g) → ◌≡◌ {A = Result U WordsFault} (Err f) (Err g)

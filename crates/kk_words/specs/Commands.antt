@@ -1,5 +1,5 @@
 -- The commands, and the form of each.
-use Rattle.std.specs.Prelude.{List, [], ◌∷◌, Option, codes, find}
+use Rattle.std.specs.Prelude.{List, [], ◌∷◌, Option, None, codes, find}
 use Rattle.std.specs.Str.{bytes_eq}
 use Rattle.clap.specs.Walk.{Text}
 use Rattle.kk_forms.specs.Form.{Word, Words, Form}
@@ -41,3 +41,8 @@ form_of Sim = record {
 -- the command that a first word names
 abbrev pub command_named : Text → Option Command
 command_named first = find (λ command. bytes_eq (form_of command).name first) commands
+
+-- the command that the first of these words names
+abbrev pub named_in : List Text → Option Command
+named_in [] = None
+named_in (first ∷ others) = command_named first

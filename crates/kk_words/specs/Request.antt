@@ -1,5 +1,5 @@
 -- What words ask for.
-use Rattle.std.specs.Prelude.{ℕ, Bool, false, List, [], ◌∷◌, Option, Some, None, if◌then◌else◌, option_and_then}
+use Rattle.std.specs.Prelude.{ℕ, Bool, false, List, Option, Some, None, if◌then◌else◌, option_and_then}
 use Rattle.std.specs.List.{list_any}
 use Rattle.std.specs.Str.{bytes_eq}
 use Rattle.clap.specs.Walk.{Row, Text}
@@ -8,7 +8,7 @@ use Rattle.kk_forms.specs.Request.{HasTexts as HasTextsOf, Request as Found, has
 use Rattle.kk_words.specs.declared.argument.Name.{Name}
 use Rattle.kk_words.specs.declared.command.Command.{Command}
 use Rattle.kk_words.specs.Arguments.{seed_name, text_of_name}
-use Rattle.kk_words.specs.Commands.{command_named, form_of}
+use Rattle.kk_words.specs.Commands.{form_of, named_in}
 
 -- a command with its texts, its seed, and each of its numbers under its name
 pub record Request : Type 0 where
@@ -76,5 +76,4 @@ request_for command words = if is_of_form command words then Some (request_from 
 -- What the words of a command line ask for, and None exactly where they are not of a command's form: the first word
 -- names the command, and clap takes the others as those of that command.
 unfoldable pub request_of : List Text → Option Request
-request_of [] = None
-request_of (first ∷ rest) = option_and_then (λ command. request_for command (first ∷ rest)) (command_named first)
+request_of words = option_and_then (λ command. request_for command words) (named_in words)

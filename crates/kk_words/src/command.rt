@@ -1,7 +1,7 @@
 //! The commands, and the form of each.
-ghost use Rattle.std.specs.Prelude.{◌≡◌, IsTrue};
+ghost use Rattle.std.specs.Prelude.{◌≡◌, IsTrue, map, string_bytes};
 ghost use Rattle.kk_forms.specs.Form.{form_of as seen_form, is_sound};
-ghost use Rattle.kk_words.specs.Commands.{command_named, form_of};
+ghost use Rattle.kk_words.specs.Commands.{command_named, form_of, named_in};
 
 use crate::argument::{
     ERASE, EXTRA, GATES, IDLE, INJECT, LISTEN, MOST, PACK, RATE, SEED, TARGET, TICKET, TOLERATE,
@@ -82,4 +82,11 @@ impl Command {
             },
         }
     }
+}
+
+/// The command that the first of these words names.
+pub fn command_in(words: &[String]) -> Option<Command>
+    ensures { result ≡ named_in (map string_bytes words.now) }
+{
+    Command::named(words.first()?.as_str())
 }

@@ -8,6 +8,6 @@ mod reading;
 
 pub use argument::Name;
 pub use asked::Asked;
-pub use command::Command;
+pub use command::{Command, command_in};
 pub use kk_forms::WordsFault;
 pub use reading::read_words;

@@ -1,9 +1,10 @@
 //! From words to what they ask for.
 ghost use Rattle.std.specs.Prelude.{◌≡◌, None, Some, IfOk, IsSome, IsTrue, is_some, length, map, string_bytes};
 ghost use Rattle.kk_words.specs.Arguments.{default_of};
+ghost use Rattle.kk_words.specs.Commands.{named_in};
 ghost use Rattle.kk_words.specs.Request.{HasTexts, has_number, has_place, has_seed, number_of, request_of};
 
-use crate::{Asked, Command, Name, WordsFault};
+use crate::{Asked, Name, WordsFault, command_in};
 use std::alloc::Global;
 
 /// What the words ask for. `words` are those of the command line, without the program's name.
@@ -12,6 +13,7 @@ use std::alloc::Global;
 pub fn read_words(alloc: Global, words: &[String]) -> Result<Asked, WordsFault>
     ensures given { IfOk result (λ given. request_of (map string_bytes words.now) ≡ Some given) }
     ensures refused { result ≡ Err WordsFault.Words → request_of (map string_bytes words.now) ≡ None }
+    ensures memory { result ≡ Err WordsFault.Alloc → IsSome (named_in (map string_bytes words.now)) }
 
     // Each word of the command's form has a text; its seed is there, and so is each of its numbers that has a default or a
     // place of its own.
@@ -20,10 +22,7 @@ pub fn read_words(alloc: Global, words: &[String]) -> Result<Asked, WordsFault>
     ensures numbers { IfOk result (λ given. (name : Name) → IsTrue (is_some (default_of name)) → IsTrue (has_number given.command name) → IsSome (number_of given.numbers name)) }
     ensures placed { IfOk result (λ given. (name : Name) → IsTrue (has_place given.command name) → IsSome (number_of given.numbers name)) }
 {
-    let Some(first) = words.first() else {
-        return Err(WordsFault::Words);
-    };
-    let Some(command) = Command::named(first.as_str()) else {
+    let Some(command) = command_in(words) else {
         return Err(WordsFault::Words);
     };
     let request = match command.form().read(alloc, words) {

@@ -2,7 +2,7 @@ use Rattle.std.proofs.Common.{◌≡◌, ℕ, List, Some, Ok, refl, ap, sym, ◌
 use Rattle.std.proofs.lemmas.Option.{same_Some}
 use Rattle.kk_words.specs.declared.command.Command.{Command}
 use Rattle.kk_words.specs.declared.command.Command.TheVariants.{Plan, Pack, Unpack, Recv}
-use Rattle.kk_order.specs.Words.{named_in}
+use Rattle.kk_words.specs.Commands.{named_in}
 use Rattle.kk_order.specs.Order.{Order, order_of}
 use Rattle.kk_order.proofs.Requests.{named_by}
 use Rattle.kk_run_recv.specs.Recv.{recv_form}

@@ -1,83 +1,9 @@
-use Rattle.std.proofs.Common.{◌≡◌, ◌∙◌, true, false, ap, sym, subst, map, [], rules, length, is_some}
+use Rattle.std.proofs.Common.{◌∙◌, sym, map}
 use Rattle.std.specs.Prelude.{string_bytes}
-use Rattle.std.specs.Str.{bytes_eq}
-use Rattle.clap.specs.Matches.{found_of}
-use Rattle.clap.specs.Walk.{rows_of}
-use Rattle.clap.specs.Simple.{App, is_simple, matches_of}
-use Rattle.clap.specs.Takes.{takes}
-use Rattle.clap.specs.Faults.{fault_of, is_simple_and_free}
-use Rattle.kk_forms.specs.Form.{app_of_form, form_of}
-use Rattle.kk_forms.specs.Request.{HasTexts, numbers_in, options_in, texts_in, under}
-use Rattle.kk_forms.proofs.Requests.{form_numbers, form_options, form_texts, named_first, named_none, never_words, requested, unnamed, untaken}
-use Rattle.kk_forms.proofs.Rules.{simple, simple_and_free, taken}
+use Rattle.kk_forms.specs.Form.{form_of}
+use Rattle.kk_forms.proofs.Requests.{unnamed}
 use Rattle.kk_forms.proofs.form.Form.read.Goals as goal
 
-pub returns-in_default-clause-refused : goal.returns-in_default-clause-refused
-returns-in_default-clause-refused c =
-    λ _. unnamed (form_of c.args.self.now) (map string_bytes c.args.words.now) (named_none (form_of c.args.self.now) c.args.words.now c.in_default.ensures.value)
-
-pub returns-then-ne-clause-refused : goal.returns-then-ne-clause-refused
-returns-then-ne-clause-refused c =
-    let form = form_of c.args.self.now in
-    let other : bytes_eq form.name c.as_str.result.now ≡ false = search (rules, c.ne.ensures, c.if-ne.true) in
-    λ _. unnamed form (map string_bytes c.args.words.now)
-    (named_first form c.args.words.now c.in-Some.first.now c.as_str.result.now c.in-Some.ensures.value c.as_str.ensures.value ∙ other)
-
-pub returns-in-Err-clause-refused : goal.returns-in-Err-clause-refused
-returns-in-Err-clause-refused c =
-    let form = form_of c.args.self.now in
-    let words = map string_bytes c.args.words.now in
-    λ e. untaken form words
-    (λ passes. never_words c.fault_of.result (c.fault_of.ensures.1 (c.in-Err.ensures.passes (ap (λ (a : App). takes a words) c.in_ok-app.ensures ∙ passes))) e)
-
-pub returns-clause-given : goal.returns-clause-given
-returns-clause-given c =
-    let form = form_of c.args.self.now in
-    let words = map string_bytes c.args.words.now in
-    let app = c.in_ok-app.ensures in
-    let none : fault_of (app_of_form form) words ≡ [] =
-    subst (λ (a : App). fault_of a words ≡ []) app (c.in-Ok.ensures.kinds (ap is_simple_and_free app ∙ simple_and_free form c.requires)) in
-    let rows : rows_of (found_of c.in-Ok.matches) ≡ matches_of (app_of_form form) words =
-    (c.in-Ok.ensures.matches (ap is_simple app ∙ simple form c.requires)).0 ∙ ap (λ (a : App). matches_of a words) app in
-    let same : bytes_eq form.name c.as_str.result.now ≡ true = search (rules, c.ne.ensures, c.if-ne.false) in
-    let named = named_first form c.args.words.now c.in-Some.first.now c.as_str.result.now c.in-Some.ensures.value c.as_str.ensures.value ∙ same in
-    requested form words c.new.result named (taken form c.requires words none)
-    (c.new.ensures.texts ∙ c.in_ok-texts.ensures ∙ ap (texts_in form.arguments) rows)
-    (c.new.ensures.options ∙ c.in_ok-options.ensures ∙ ap (options_in form.arguments) rows)
-    (c.new.ensures.numbers ∙ c.in_ok-numbers.ensures ∙ ap (numbers_in form.arguments) rows)
-
-pub returns-clause-texts : goal.returns-clause-texts
-returns-clause-texts c =
-    let form = form_of c.args.self.now in
-    let words = map string_bytes c.args.words.now in
-    let app = c.in_ok-app.ensures in
-    let none : fault_of (app_of_form form) words ≡ [] =
-    subst (λ (a : App). fault_of a words ≡ []) app (c.in-Ok.ensures.kinds (ap is_simple_and_free app ∙ simple_and_free form c.requires)) in
-    let rows : rows_of (found_of c.in-Ok.matches) ≡ matches_of (app_of_form form) words =
-    (c.in-Ok.ensures.matches (ap is_simple app ∙ simple form c.requires)).0 ∙ ap (λ (a : App). matches_of a words) app in
-    subst (λ texts. HasTexts form (length texts)) (sym (c.new.ensures.texts ∙ c.in_ok-texts.ensures ∙ ap (texts_in form.arguments) rows))
-    (form_texts form words (taken form c.requires words none))
-
-pub returns-clause-options : goal.returns-clause-options
-returns-clause-options c =
-    let form = form_of c.args.self.now in
-    let words = map string_bytes c.args.words.now in
-    let app = c.in_ok-app.ensures in
-    let none : fault_of (app_of_form form) words ≡ [] =
-    subst (λ (a : App). fault_of a words ≡ []) app (c.in-Ok.ensures.kinds (ap is_simple_and_free app ∙ simple_and_free form c.requires)) in
-    let rows : rows_of (found_of c.in-Ok.matches) ≡ matches_of (app_of_form form) words =
-    (c.in-Ok.ensures.matches (ap is_simple app ∙ simple form c.requires)).0 ∙ ap (λ (a : App). matches_of a words) app in
-    let options = c.new.ensures.options ∙ c.in_ok-options.ensures ∙ ap (options_in form.arguments) rows in
-    λ name has. ap (λ entries. is_some (under entries name)) options ∙ form_options form words (taken form c.requires words none) name has
-
-pub returns-clause-numbers : goal.returns-clause-numbers
-returns-clause-numbers c =
-    let form = form_of c.args.self.now in
-    let words = map string_bytes c.args.words.now in
-    let app = c.in_ok-app.ensures in
-    let none : fault_of (app_of_form form) words ≡ [] =
-    subst (λ (a : App). fault_of a words ≡ []) app (c.in-Ok.ensures.kinds (ap is_simple_and_free app ∙ simple_and_free form c.requires)) in
-    let rows : rows_of (found_of c.in-Ok.matches) ≡ matches_of (app_of_form form) words =
-    (c.in-Ok.ensures.matches (ap is_simple app ∙ simple form c.requires)).0 ∙ ap (λ (a : App). matches_of a words) app in
-    let numbers = c.new.ensures.numbers ∙ c.in_ok-numbers.ensures ∙ ap (numbers_in form.arguments) rows in
-    λ name has. ap (λ entries. is_some (under entries name)) numbers ∙ form_numbers form words (taken form c.requires words none) name c.requires has
+pub returns-then-not-is_named-clause-refused : goal.returns-then-not-is_named-clause-refused
+returns-then-not-is_named-clause-refused c =
+    λ _. unnamed (form_of c.args.self.now) (map string_bytes c.args.words.now) (sym c.is_named.ensures ∙ c.if-not-is_named.true)

@@ -1,13 +1,23 @@
 use Rattle.std.proofs.Common.{◌∙◌, subst, sym, ap, inl, inr, map, None, Some, Ok, Err}
 use Rattle.std.specs.Prelude.{string_bytes}
+use Rattle.kk_forms.specs.Form.{form_of}
 use Rattle.kk_order.specs.Seed.{seed_of}
 use Rattle.kk_order.specs.Order.{FitsLine, cause_of, first_broken, order_form_of}
-use Rattle.kk_order.proofs.Orders.{bounds_kept, broken_fits, by_broken, listeners_kept, no_ticket, not_of_form, order_made, seed_kept}
+use Rattle.kk_order.proofs.Orders.{bounds_kept, broken_fits, by_broken, found_named, listeners_kept, no_ticket, not_of_form, order_made, seed_kept}
 use Rattle.kk_order.proofs.order_form.OrderForm.read.Goals as goal
 
 pub returns-in-Err-Words-clause-refused : goal.returns-in-Err-Words-clause-refused
 returns-in-Err-Words-clause-refused c =
     inr (not_of_form (order_form_of c.args.self.now) (map string_bytes c.args.words.now) (c.in-Err-Words.ensures.refused (ap Err c.in-Err-Words.field-0-is)))
+
+pub returns-in-Err-Alloc-clause-memory : goal.returns-in-Err-Alloc-clause-memory
+returns-in-Err-Alloc-clause-memory c = λ _. c.in-Err-Alloc.ensures.memory (ap Err c.in-Err-Alloc.field-0-is)
+
+pub returns-in-Err-clause-memory : goal.returns-in-Err-clause-memory
+returns-in-Err-clause-memory c = λ _. found_named (form_of c.args.self.now.words) (map string_bytes c.args.words.now) c.in-Ok.request c.in-Ok.ensures.given
+
+pub returns-in-Some-clause-memory : goal.returns-in-Some-clause-memory
+returns-in-Some-clause-memory c = λ _. found_named (form_of c.args.self.now.words) (map string_bytes c.args.words.now) c.in-Ok.request c.in-Ok.ensures.given
 
 pub returns-in-Err-clause-refused : goal.returns-in-Err-clause-refused
 returns-in-Err-clause-refused c =
