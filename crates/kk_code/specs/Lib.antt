@@ -8,3 +8,4 @@ pub mod Reading
 pub mod Laws
 pub mod CodeExamples
 pub mod TicketExamples
+pub mod BadParamsText

@@ -14,12 +14,21 @@ pub enum BadParams {
 }
 
 impl fmt::Display for BadParams {
+    ghost use Rattle.std.specs.Prelude.{Some};
+    ghost use Rattle.kk_code.specs.BadParamsText.{bad_params_text};
+
+    ghost output = { λ broken. Some (bad_params_text broken) };
+
     fn fmt<W: fmt::Write>(&self, f: &mut fmt::Formatter<W>) -> fmt::Result {
-        f.write_str(match self {
-            BadParams::M => "the degree of the field is not 2 to 64",
-            BadParams::L => "the number of evaluation points is not 1 to the degree of the field",
-            BadParams::K => "the number of symbols is not 1 to the number of evaluation points",
-        })
+        match self {
+            BadParams::M => f.write_str("the degree of the field is not 2 to 64"),
+            BadParams::L => f.write_str(
+                "the number of evaluation points is not 1 to the degree of the field",
+            ),
+            BadParams::K => f.write_str(
+                "the number of symbols is not 1 to the number of evaluation points",
+            ),
+        }
     }
 }
 

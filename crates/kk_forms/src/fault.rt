@@ -19,11 +19,16 @@ pub enum WordsFault {
 }
 
 impl fmt::Display for WordsFault {
+    ghost use Rattle.std.specs.Prelude.{Some};
+    ghost use Rattle.kk_forms.specs.FaultText.{fault_text};
+
+    ghost output = { λ fault. Some (fault_text fault) };
+
     fn fmt<W: fmt::Write>(&self, f: &mut fmt::Formatter<W>) -> fmt::Result {
-        f.write_str(match self {
-            WordsFault::Words => "the words are not of a command's form",
-            WordsFault::Alloc => "out of memory",
-        })
+        match self {
+            WordsFault::Words => f.write_str("the words are not of a command's form"),
+            WordsFault::Alloc => f.write_str("out of memory"),
+        }
     }
 }
 

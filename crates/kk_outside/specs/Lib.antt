@@ -17,3 +17,4 @@ pub mod SendLog
 pub mod Packed
 pub mod UdpState
 pub mod Generator
+pub mod OpenFaultText

@@ -16,6 +16,11 @@ pub enum OpenFault {
 }
 
 impl fmt::Display for OpenFault {
+    ghost use Rattle.std.specs.Prelude.{Some};
+    ghost use Rattle.kk_outside.specs.OpenFaultText.{open_fault_text};
+
+    ghost output = { λ fault. Some (open_fault_text fault) };
+
     fn fmt<W: fmt::Write>(&self, f: &mut fmt::Formatter<W>) -> fmt::Result {
         match self {
             OpenFault::Alloc => write!(f, "the system has no memory for a socket"),

@@ -3,3 +3,4 @@ pub mod RelayState
 pub mod Progress
 pub mod Laws
 pub mod RelayExamples
+pub mod FaultText

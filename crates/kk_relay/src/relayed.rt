@@ -24,6 +24,11 @@ pub enum RelayFault {
 }
 
 impl fmt::Display for RelayFault {
+    ghost use Rattle.std.specs.Prelude.{Some};
+    ghost use Rattle.kk_relay.specs.FaultText.{fault_text};
+
+    ghost output = { λ fault. Some (fault_text fault) };
+
     fn fmt<W: fmt::Write>(&self, f: &mut fmt::Formatter<W>) -> fmt::Result {
         match self {
             RelayFault::Gate => write!(f, "the gate failed"),
