@@ -1,5 +1,5 @@
 -- A pass's step, as the table asks for it.
-use Rattle.std.proofs.Common.{◌≡◌, ℕ, Bool, true, false, [], length, sym, refl, ap, ◌∙◌, subst, eqb}
+use Rattle.std.proofs.Common.{◌≡◌, ℕ, ◌+◌, Bool, true, false, [], length, sym, refl, ap, ◌∙◌, subst, eqb}
 use prog.Atomic.{either}
 use Rattle.atomic_table.specs.Table.{Me, Allows}
 use Rattle.kk_machine.specs.declared.call.Call.{Call}
@@ -9,7 +9,7 @@ use Rattle.kk_table.specs.declared.view.Shape.{Shape}
 use Rattle.kk_table.specs.declared.view.View.{View}
 use Rattle.kk_table.specs.Places.{place_of}
 use Rattle.kk_table.specs.Rule.{sight, Tried, Holds}
-use Rattle.kk_table.specs.Pass.{IsAimed, known_in}
+use Rattle.kk_table.specs.Pass.{IsAimed, known_in, IsPassing}
 use Rattle.kk_table.proofs.Tries.{look_allowed, change_allowed}
 
 -- what the step tells
@@ -34,3 +34,9 @@ change_aimed key slots id me width call word words new width' call' same_call sa
     (change_allowed {S = Unit {0}} key slots id (known_in me.0) call word new aim.in_range
     (subst (λ (w : ℕ). IsInWidth w call) (sym aim.wide) aim.allowed.0) (aim.allowed.1 refl)
     (aim.here ∙ ap (λ (w : ℕ). place_of w (generation_of call) (length (sight (known_in me.0) (generation_of call)).rows)) (sym aim.wide)) is)
+
+-- a step is one access more
+pub counted : (width : ℕ) (changing : Bool) (call : Call) (me : Me (Unit {0}) View) (found : ℕ) (after : View) → IsPassing me → Tried width changing call me.0 found after
+    → (known_in after).accesses ≡ (known_in me.0).accesses + 1
+counted width changing call me found after knows tried =
+    ap (λ (v : View). (known_in v).accesses) (subst (λ (v : View). Tried width changing call v found after) (ap (λ (m : Me (Unit {0}) View). m.0) knows) tried).0

@@ -346,9 +346,9 @@ takes_as key id v gens given records other w k e f =
     subst (λ (x : View × View). Joins {S = Unit {0}} (Holds key) id x.0 other x.1 (founder_with x.0 x.1) Spent) (λ i. (sym e i, sym f i)) (takes {S = Unit {0}} key id gens given records other k)
 
 pub after_join : (shape : Shape) (me pass_me me' : Me (Unit {0}) View) (passes given taken : ℕ) (spare : List (List SightView)) (k : Known) → IsFounder shape me passes given taken spare → pass_me ≡ (Pass k, [])
-    → me' ≡ (founder_with me.0 pass_me.0, me.1) → me' ≡ (Founder shape.generations given (records_in me.0 ++ k ∷ []), [])
+    → me' ≡ (founder_with me.0 pass_me.0, []) → me' ≡ (Founder shape.generations given (records_in me.0 ++ k ∷ []), [])
 after_join shape me pass_me me' passes given taken spare k is pass e =
-    e ∙ ap (λ (m : Me (Unit {0}) View). (founder_with m.0 pass_me.0, m.1)) is.knows ∙ ap (λ (m : Me (Unit {0}) View). (founder_with (Founder shape.generations given (records_in me.0)) m.0, [])) pass
+    e ∙ ap (λ (m : Me (Unit {0}) View). (founder_with m.0 pass_me.0, [])) is.knows ∙ ap (λ (m : Me (Unit {0}) View). (founder_with (Founder shape.generations given (records_in me.0)) m.0, [])) pass
 
 pub founder_took : (shape : Shape) (me me' me'' : Me (Unit {0}) View) (passes given taken : ℕ) (spare : List (List SightView)) (k : Known) → IsFounder shape me passes given taken spare
     → me' ≡ (Founder shape.generations given (records_in me.0 ++ k ∷ []), []) → me'' ≡ me' → IsCounted me'.0 → IsFounder shape me'' passes given (taken + 1) spare

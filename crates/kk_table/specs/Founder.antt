@@ -40,6 +40,10 @@ records_in (Founder generations given records) = records
 records_in (Pass k) = []
 records_in Spent = []
 
+-- the seat is that of a founder
+abbrev pub IsFounding : Me (Unit {0}) View → Type 0
+IsFounding me = (generations given : ℕ) × (records : List Known) × (me ≡ (Founder generations given records, []))
+
 -- storage for n generations in which nothing is seen
 pub record IsFresh (width n : ℕ) (seen : List Seen) : Type 0 where
   pub all : length seen ≡ n

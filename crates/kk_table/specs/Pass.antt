@@ -33,9 +33,13 @@ known_in (Founder generations given records) = stranger
 known_in (Pass k) = k
 known_in Spent = stranger
 
+-- the seat is that of a pass
+abbrev pub IsPassing : Me (Unit {0}) View → Type 0
+IsPassing me = me ≡ (Pass (known_in me.0), [])
+
 -- the seat's view is that of a pass, which has seen what is kept
 pub record IsPass (shape : Shape) (number : ℕ) (me : Me (Unit {0}) View) (seen : List Seen) : Type 0 where
-  pub knows : me ≡ (Pass (known_in me.0), [])
+  pub knows : IsPassing me
   pub numbered : (known_in me.0).number ≡ number
   pub sights : (known_in me.0).seen ≡ logs_of seen
   pub widths : HaveWidth shape.width seen
@@ -43,7 +47,7 @@ pub record IsPass (shape : Shape) (number : ℕ) (me : Me (Unit {0}) View) (seen
 
 -- the seat of a pass may make a step for the call on this word
 pub record IsAimed (key : Shape) (width : ℕ) (changing : Bool) (call : Call) (me : Me (Unit {0}) View) (word words : ℕ) : Type 0 where
-  pub knows : me ≡ (Pass (known_in me.0), [])
+  pub knows : IsPassing me
   pub wide : key.width ≡ width
   pub in_range : generation_of call < key.generations
   pub here : word ≡ place_of width (generation_of call) (length (sight (known_in me.0) (generation_of call)).rows)

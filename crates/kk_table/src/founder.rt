@@ -5,7 +5,6 @@ ghost use Rattle.kk_machine.specs.declared.log.TheConstants.{MAX_WIDTH};
 ghost use Rattle.kk_table.specs.Rule.{newcomer};
 ghost use Rattle.kk_table.specs.Founder.{IsSpare, founder_reserved, founder_gave, founder_took};
 
-use super::rule::{Count, Given, Taken};
 use super::spares::Spares;
 use super::{GenTable, NoPass, Pass, Shape, View};
 use atomic_table::Seat;
@@ -113,7 +112,7 @@ impl Founder {
         let Some(seen) = self.spare.take() else {
             return Err(NoPass::Alloc);
         };
-        let seat = table.shared().split_seat::<Given>(&mut self.seat);
+        let seat = table.words().give(&mut self.seat);
         self.given += 1;
         Ok(Pass {
             seat,
@@ -130,10 +129,10 @@ impl Founder {
         ensures { self.new ≡ founder_took self.old pass.known }
     {
         let Pass { seat, .. } = pass;
-        let shared = table.shared();
-        shared.join_seat::<Taken>(&mut self.seat, seat);
-        // The join tells its seat nothing, and the count of passes that are out rests on what this load tells.
-        shared.load::<Count>(&mut self.seat, 0);
+        let words = table.words();
+        words.take(&mut self.seat, seat);
+        // What this tells is what the count of passes that are out rests on.
+        words.count(&mut self.seat);
         self.taken += 1;
     }
 }

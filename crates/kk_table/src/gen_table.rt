@@ -12,11 +12,9 @@ ghost use Rattle.kk_table.specs.Pass.{GoesOn, AccessesAtMost, Told, StepsOn};
 ghost use Rattle.kk_table.specs.Answers.{insert_reply, freeze_reply, InsertTold, FreezeTold};
 
 use super::founder::storage;
-use super::rule::Kept;
 use super::spares::Spares;
-use super::steps::probe;
-use super::{Founder, Freeze, Inserted, Pass, Shape, View};
-use atomic_table::{Shared, Table};
+use super::words::Words;
+use super::{Founder, Freeze, Inserted, Pass, Shape};
 use kk_code::Ticket;
 use kk_machine::{Call, Reply, Sight};
 use kk_rows::{Alloc, Row};
@@ -31,7 +29,7 @@ use std::marker::Model;
 /// atomic step on the first word that its pass hasn't seen, and a step that loses shows a row that another one added.
 #[derive(Drop)]
 pub struct GenTable {
-    pub(crate) table: Table<(), View, Shape, Kept, Global>,
+    pub(crate) words: Words,
     pub(crate) shape: Shape,
     pub(crate) logs: BoxedSlice<Sight>,
 }
@@ -43,9 +41,9 @@ impl Model for GenTable {
 
     ghost Value = { TableView };
 
-    ghost view = { λ t. record { id = t.table.shared.table_id; shape = t.shape } };
+    ghost view = { λ t. record { id = t.words.table.shared.table_id; shape = t.shape } };
 
-    ghost invariant = { λ t. IsTable t.shape t.table.shared.key t.table.shared.table_id × IsSpare t.shape (boxed_slice_items t.logs) };
+    ghost invariant = { λ t. IsTable t.shape t.words.table.shared.key t.words.table.shared.table_id × IsSpare t.shape (boxed_slice_items t.logs) };
 }
 
 impl GenTable {
@@ -73,8 +71,7 @@ impl GenTable {
         ensures founder { IfOk result (λ t. t.1 ≡ new_founder t.0 passes) }
     {
         let logs = storage(alloc, shape)?;
-        let words = vec![in alloc; 0u64; shape.first_word(shape.generations)]?;
-        let (table, seat) = Table::of_words(alloc, words.as_slice(), &shape)?;
+        let (words, seat) = Words::new(alloc, shape)?;
         let founder = Founder {
             seat,
             shape,
@@ -83,7 +80,7 @@ impl GenTable {
             taken: 0,
             spare: Spares::new(alloc),
         };
-        Ok((GenTable { table, shape, logs }, founder))
+        Ok((GenTable { words, shape, logs }, founder))
     }
 
     /// How many generations the table has, and how wide its rows are.
@@ -92,15 +89,16 @@ impl GenTable {
         ensures some { 0 < self.now.shape.width }
         ensures fits { self.now.shape.width ≤ MAX_WIDTH }
     {
-        let _ = &self.table;
+        let _ = &self.words;
         self.shape
     }
 
-    pub(crate) fn shared(&self) -> &Shared<(), View, Shape, Kept>
-        ensures id { (result.now.table_id ≡ self.now.id) × (0 < self.now.id.words) }
-        ensures key { result.now.key ≡ self.now.shape }
+    /// Its words.
+    pub(crate) fn words(&self) -> &Words
+        ensures id { (result.now.table.shared.table_id ≡ self.now.id) × (0 < self.now.id.words) }
+        ensures key { result.now.table.shared.key ≡ self.now.shape }
     {
-        &self.table.shared
+        &self.words
     }
 
     /// One atomic step of the pass for the call, on the first word of its generation that the pass hasn't seen: an
@@ -120,14 +118,9 @@ impl GenTable {
         let sight = &mut pass.seen[generation as usize];
         let word = self.shape.first_word(generation) + sight.len() as usize;
         let changing = sight.changes(&call);
-        let found = probe(
-            &self.table.shared,
-            &mut pass.seat,
-            word,
-            changing,
-            call,
-            self.shape.width,
-        );
+        let found = self
+            .words
+            .probe(&mut pass.seat, word, changing, call, self.shape.width);
         let reply = sight.decide(changing, changing, found, &call);
         sight.tell(call.leaves(changing, found));
         reply

@@ -9,8 +9,8 @@ mod logs;
 mod pass;
 mod rule;
 mod spares;
-mod steps;
 mod view;
+mod words;
 
 pub use answers::{Freeze, Inserted, NoPass};
 pub use founder::Founder;

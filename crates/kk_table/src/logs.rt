@@ -123,12 +123,12 @@ impl GenTable {
         }
         let kept = Snapshot::of(&founder);
         let GenTable {
-            table,
+            words,
             shape,
             mut logs,
         } = self;
         let Founder { seat, .. } = founder;
-        let closed = table.close_with(seat);
+        let closed = words.close(seat);
         for generation in 0..shape.generations {
             read_log(&closed, shape, generation, &mut logs[generation as usize]);
         }

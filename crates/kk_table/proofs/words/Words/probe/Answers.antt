@@ -4,7 +4,7 @@ use Rattle.kk_machine.specs.declared.call.Call.{Call}
 use Rattle.kk_machine.specs.declared.call.Call.TheVariants.{Insert, Freeze, Peek}
 use Rattle.kk_machine.specs.Spaces.{IsInWidth}
 use Rattle.kk_machine.specs.Steps.{new_word}
-use Rattle.kk_table.proofs.steps.probe.Goals as goal
+use Rattle.kk_table.proofs.words.Words.probe.Goals as goal
 
 -- the word of a call whose row has at most 63 bits
 word_fits : (width : ℕ) (call : Call) → width ≤ 63 → IsInWidth width call → new_word call < 2 ^ 64
