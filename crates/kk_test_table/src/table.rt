@@ -114,6 +114,7 @@ fn one_call_comes_after_another(rt: HostRuntime) -> Result<(), Fail> {
     ) else {
         panic!(rt; "no pass")
     };
+    assert!(rt; matches!(founder.pass_reserved(&table), Err(NoPass::Alloc)));
     founder.reserve(rt.alloc(), &table)?;
     assert_eq!(rt;
         table.insert(&mut a, 0, Row(13)),
@@ -127,7 +128,7 @@ fn one_call_comes_after_another(rt: HostRuntime) -> Result<(), Fail> {
     assert!(rt; b.number() == 2 && b.known_closed(0) && !b.known_closed(1));
     founder.take_back(&table, a);
     founder.take_back(&table, b);
-    let Ok(mut c) = founder.pass(rt.alloc(), &table) else {
+    let Ok(mut c) = founder.pass_reserved(&table) else {
         panic!(rt; "a storage is reserved")
     };
     assert_eq!(rt; table.peek(&mut c, 0), 1);
