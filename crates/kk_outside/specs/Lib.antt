@@ -3,6 +3,7 @@ pub mod Change
 pub mod Source
 pub mod Sink
 pub mod ReadLog
+pub mod Room
 pub mod WriteLog
 pub mod SourceState
 pub mod SinkState
