@@ -75,6 +75,12 @@ answer_by false answer = answer
 abbrev pub answer_of : List (List ℕ) → ℕ → Result Order Cause
 answer_of words gates = answer_by (gates == 0) (order_of relay_form words)
 
+-- The words ask for this relay, where so many gates were handed in.
+pub record AsksFor (words : List (List ℕ)) (gates : ℕ) (relaying : Relaying) : Type 0 where
+  pub order : Order
+  pub ordered : answer_of words gates ≡ Ok order
+  pub same : relaying ≡ relaying_of order
+
 -- ---- the datagrams
 
 -- what is sent by an order of a gate with these events

@@ -2,5 +2,7 @@
 #![tactic(auto)]
 
 mod relay;
+mod relaying;
 
 pub use relay::{RELAY, run_relay};
+pub use relaying::Relaying;

@@ -3,7 +3,7 @@ ghost use Rattle.std.specs.Prelude.{IfOk};
 ghost use Rattle.kk_outside.specs.Gate.{FitsGate};
 
 use kk_outside::{Alloc, Bytes, Event, MemoryGate, MemoryOutlet, MemorySink};
-use kk_run_relay::run_relay;
+use kk_run_relay::{Relaying, run_relay};
 use kk_worked::{ONE_BYTE, ZEROS, frame, texts};
 use std::alloc::Global;
 use std::process::Abort;
@@ -92,6 +92,24 @@ fn two_rows_and_the_end(rt: HostRuntime) -> Result<(), Fail> {
     assert_eq!(rt; datagram_of(outlet, 0), frame(0, 0, 0).as_slice());
     assert_eq!(rt; datagram_of(outlet, 2), frame(0, 0, 13).as_slice());
     assert_eq!(rt; datagram_of(outlet, 4), frame(1, 0, 0).as_slice());
+    Ok(())
+}
+
+/// The opening has no gate yet, and the run has no allocator.
+#[test]
+fn an_opening_and_its_run(rt: HostRuntime) -> Result<(), Fail> {
+    let alloc = rt.alloc();
+    let words = texts(alloc, TWO)?;
+    let events = Vec::from_array(alloc, [datagram(alloc, 0, 13)?, datagram(alloc, 1, 0)?])?;
+    let mut gate = MemoryGate::new(events);
+    let mut report = MemorySink::new(alloc, 1000, 100, Vec::new(alloc))?;
+    let mut outlet = MemoryOutlet::new(alloc, 1000, Vec::new(alloc))?;
+    let status = match Relaying::open(alloc, &words, 1) {
+        Ok(relaying) => Some(relaying.run(&mut gate, &mut report, &mut outlet)),
+        Err(_) => None,
+    };
+    assert_eq!(rt; status, Some(0));
+    assert_eq!(rt; outlet.sent(), 3);
     Ok(())
 }
 

@@ -2,7 +2,7 @@ use Rattle.std.proofs.Common.{◌≡◌, ℕ, List, ◌++◌, append_assoc, ap, 
 use Rattle.std.specs.Prelude.{codes}
 use Rattle.std.specs.Fmt.{decimal}
 use Rattle.kk_report.specs.Report.{gate_line}
-use Rattle.kk_run_relay.proofs.relay.relay_lines.Goals as goal
+use Rattle.kk_run_relay.proofs.relaying.relay_lines.Goals as goal
 
 joined : (g a b c d e f h : List ℕ) → g ++ (a ++ b ++ c ++ d ++ e ++ f ++ h) ≡ g ++ a ++ b ++ c ++ d ++ e ++ f ++ h
 joined g a b c d e f h = simp append_assoc

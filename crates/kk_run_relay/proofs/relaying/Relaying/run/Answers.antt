@@ -16,11 +16,11 @@ use Rattle.kk_order.specs.Seed.{stream_with}
 use Rattle.kk_run_relay.specs.Relay.{Relaying, RelaysBy, refusal_of}
 use Rattle.kk_run_relay.proofs.Runs.{list_by, lines_by, cut_all_by, relays_done, relays_gate_failed, relays_outlet_failed}
 use Rattle.kk_report.proofs.Statuses.{through_told}
-use Rattle.kk_run_relay.proofs.relay.relay_by.Goals as goal
+use Rattle.kk_run_relay.proofs.relaying.Relaying.run.Goals as goal
 
 pub returns-in-Ok : goal.returns-in-Ok
 returns-in-Ok g c =
-    let o = c.args.order.now in
+    let o = c.self.inside in
     let order : Relaying = record { ticket = o.ticket; seed = Some o.seed; rate = o.rate; limits = o.limits } in
     let gate = change (g.G.Gate.told c.args.gate.now) (g.G.Gate.told c.relay_all-relayed.new.gate) in
     let report = change (g.P.Sink.told c.args.report.now) (g.P.Sink.told c.conclude.new.report) in
@@ -30,16 +30,18 @@ returns-in-Ok g c =
     let list = list_by order (stream_of (steps_u32 (next_word 10)) c.from_seed-rng.result) (events_told gate) words in
     let lines = lines_by order (stream_of (steps_u32 (next_word 10)) c.from_seed-rng.result) (events_told gate) c.in-Ok.relayed.gate c.in-Ok.relayed.innovative c.in-Ok.relayed.sent words h.counts
     (h.innovative ∙ ap (λ (l : List BasisState). sum_by rank l) (h.rows (λ e. cc))) h.number in
-    relays_done order gate report outlet c.conclude.result (h.gate_fault.kept (λ e. cc)) (h.outlet_fault.kept (λ e. cc)) h.asked (h.stop (λ e. cc))
-    (h.sent (λ e. cc) ∙ ap (append_datagrams (g.O.Outlet.told c.args.outlet.now).sends) list)
-    (through_told 0 c.conclude.result (inl refl) c.conclude.ensures.same_or_five) (λ can. c.conclude.ensures.five can refl)
-    (subst (λ (l : List ℕ). WasGiven (concluded_text 0 l) report) (c.as_str.ensures.value ∙ c.relay_lines.ensures.text ∙ lines) c.conclude.ensures.given)
+    record {
+      relays = subst (λ (r : Relaying). RelaysBy r gate report outlet c.conclude.result) c.self.view_is (relays_done order gate report outlet c.conclude.result (h.gate_fault.kept (λ e. cc)) (h.outlet_fault.kept (λ e. cc)) h.asked (h.stop (λ e. cc))
+          (h.sent (λ e. cc) ∙ ap (append_datagrams (g.O.Outlet.told c.args.outlet.now).sends) list)
+          (through_told 0 c.conclude.result (inl refl) c.conclude.ensures.same_or_five) (λ can. c.conclude.ensures.five can refl)
+          (subst (λ (l : List ℕ). WasGiven (concluded_text 0 l) report) (c.as_str.ensures.value ∙ c.relay_lines.ensures.text ∙ lines) c.conclude.ensures.given));
+    }
 
 pub returns : goal.returns
-returns g c = by c.in-Err.fault refl
+returns g c = record { relays = subst (λ (r : Relaying). RelaysBy r gate report outlet c.refuse.result) c.self.view_is (by c.in-Err.fault refl) }
   where
     order : Relaying
-    order = record { ticket = c.args.order.now.ticket; seed = Some c.args.order.now.seed; rate = c.args.order.now.rate; limits = c.args.order.now.limits }
+    order = record { ticket = c.self.inside.ticket; seed = Some c.self.inside.seed; rate = c.self.inside.rate; limits = c.self.inside.limits }
 
     gate : Change GateTold
     gate = change (g.G.Gate.told c.args.gate.now) (g.G.Gate.told c.relay_all-relayed.new.gate)
