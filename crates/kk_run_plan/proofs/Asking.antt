@@ -9,18 +9,12 @@ use Rattle.kk_code.specs.declared.ticket.TheConstants.{MAX_GENERATIONS}
 use Rattle.kk_code.specs.declared.fault.TicketFault.{TicketFault}
 use Rattle.kk_code.specs.declared.fault.TicketFault.TheVariants.{TooMany}
 use Rattle.kk_forms.specs.Request.{Request, request_by}
-use Rattle.kk_report.specs.Command.{IsRefusalOfWords}
+use Rattle.kk_report.specs.Command.{IsRefusalOfWords, RanThrough}
 use Rattle.kk_order.specs.declared.order_form.TicketPlace.TheVariants.{Parts}
 use Rattle.kk_order.specs.Order.{Cause, IsRefusedFor, Order, Ticket, first_broken, order_found, order_of, order_under, order_unless, order_with, ticket_text_in}
 use Rattle.kk_order.specs.Refuses.{IsRange, Refuses, status_of}
 use Rattle.kk_order.proofs.Refusals.{same_order}
-use Rattle.kk_run_plan.specs.Plan.{IsPlanStatus, IsTooLong, answer_by, answer_of, order_unless_many, plan_form}
-
--- The words ask to plan under this ticket.
-pub record NamesTicket (words : List (List ℕ)) (t : TicketFields) : Type 0 where
-  pub order : Order
-  pub ordered : order_of plan_form words ≡ Ok order
-  pub ticket : t ≡ order.ticket
+use Rattle.kk_run_plan.specs.Plan.{IsPlanStatus, IsTooLong, NamesTicket, answer_by, answer_of, order_unless_many, plan_form}
 
 -- what is said of the ticket that the words name holds by their order
 pub named_once : (words : List (List ℕ)) (P : TicketFields → Type 0) (t : TicketFields) (order : Order) → NamesTicket words t
@@ -101,9 +95,13 @@ refused_alone words status report refuses (inr (inr (inr eleven))) =
     let why = (refuses.range_refused (λ eight. omega (arith, eight, eleven))).0 eleven in
     absurd (not_range words why.0 why.2 why.1)
 
--- a run that went by an order doesn't end with the status of a refusal of its words
-pub was_accepted : (words : List (List ℕ)) (order : Order) (status : ℕ) → order_of plan_form words ≡ Ok order → (IsRefusalOfWords status → ⊥)
+-- the ticket that the words name is that of an order
+pub was_accepted : (words : List (List ℕ)) (t : TicketFields) (status : ℕ) → NamesTicket words t → ((status ≡ 1) ⊎ ((status ≡ 8) ⊎ (status ≡ 11)) → ⊥)
     → (status ≡ 1) ⊎ ((status ≡ 8) ⊎ ((other : Order) → order_of plan_form words ≡ Ok other → ⊥)) → ⊥
-was_accepted words order status ordered accepted (inl one) = accepted (inl one)
-was_accepted words order status ordered accepted (inr (inl eight)) = accepted (inr (inr (inl eight)))
-was_accepted words order status ordered accepted (inr (inr none)) = none order ordered
+was_accepted words t status named accepted (inl one) = accepted (inl one)
+was_accepted words t status named accepted (inr (inl eight)) = accepted (inr (inl eight))
+was_accepted words t status named accepted (inr (inr none)) = none named.order named.ordered
+
+-- the statuses of a run
+pub run_alone : (status : ℕ) → (status ≡ 2) ⊎ ((status ≡ 4) ⊎ RanThrough status) → (status ≡ 1) ⊎ ((status ≡ 8) ⊎ (status ≡ 11)) → ⊥
+run_alone status is other = grind arith

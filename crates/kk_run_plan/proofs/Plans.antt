@@ -19,8 +19,8 @@ use Rattle.kk_report.specs.Report.{concluded_text}
 use Rattle.kk_order.specs.Order.{Cause, IsRefusedFor, Ticket, order_of}
 use Rattle.kk_order.specs.Refuses.{refused_text, status_of}
 use Rattle.kk_order.proofs.Refusals.{refusal_status, words_accepted, words_refused}
-use Rattle.kk_run_plan.specs.Plan.{ReadsToEnd, StopsAtLimit, FailsBeforeEnd, IsFirstTooLong, answer_of, plan_form, planned, Plans}
-use Rattle.kk_run_plan.proofs.Asking.{NamesTicket, accepted_short, named_once, only_memory, refused_alone, refused_for, refused_long}
+use Rattle.kk_run_plan.specs.Plan.{ReadsToEnd, StopsAtLimit, FailsBeforeEnd, IsFirstTooLong, NamesTicket, answer_of, plan_form, planned, Plans}
+use Rattle.kk_run_plan.proofs.Asking.{accepted_short, named_once, only_memory, refused_alone, refused_for, refused_long}
 use Rattle.kk_report.proofs.Statuses.{IsStatusOf, not_through, once_or_through, once_not_four, through_told, sinks_failed}
 
 -- the words or the ticket were refused, or there was no memory

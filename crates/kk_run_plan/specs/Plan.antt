@@ -30,6 +30,12 @@ plan_form = record {
   listeners = None;
 }
 
+-- The words ask to plan under this ticket.
+pub record NamesTicket (words : List (List ℕ)) (t : TicketFields) : Type 0 where
+  pub order : Order
+  pub ordered : order_of plan_form words ≡ Ok order
+  pub ticket : t ≡ order.ticket
+
 -- ---- the source
 
 -- a file of these bytes takes too many generations

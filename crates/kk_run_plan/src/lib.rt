@@ -2,5 +2,7 @@
 #![tactic(auto)]
 
 mod plan;
+mod planning;
 
 pub use plan::{PLAN, run_plan};
+pub use planning::Planning;

@@ -1,6 +1,6 @@
 //! `plan` over sources and sinks in memory.
 use kk_outside::{Alloc, MemorySink, MemorySource, Source};
-use kk_run_plan::run_plan;
+use kk_run_plan::{Planning, run_plan};
 use kk_worked::texts;
 use std::alloc::Global;
 use std::process::Abort;
@@ -60,6 +60,23 @@ const TICKET: &str = "kk1:00000001:3:0000000000000003:3:1:1\n";
 fn one_byte_has_the_ticket_of_its_length(rt: HostRuntime) -> Result<(), Fail> {
     let outcome = plan(rt.alloc(), SMALL, 1, &[])?;
     expect(&rt, &outcome, 0, TICKET, "status 0\n");
+    Ok(())
+}
+
+/// The opening has no source yet, and the run has no allocator.
+#[test]
+fn an_opening_and_its_run(rt: HostRuntime) -> Result<(), Fail> {
+    let alloc = rt.alloc();
+    let words = texts(alloc, SMALL)?;
+    let mut source = source_of(alloc, 1, &[])?;
+    let mut file = MemorySink::new(alloc, 100, 100, Vec::new(alloc))?;
+    let mut report = MemorySink::new(alloc, 100, 100, Vec::new(alloc))?;
+    let status = match Planning::open(alloc, &words) {
+        Ok(planning) => Some(planning.run(&mut source, &mut file, &mut report)),
+        Err(_) => None,
+    };
+    assert_eq!(rt; status, Some(0));
+    assert_eq!(rt; file.bytes(), TICKET.as_bytes());
     Ok(())
 }
 

@@ -3,7 +3,7 @@ use Rattle.kk_outside.specs.Change.{change}
 use Rattle.kk_outside.specs.Sink.{WasGiven}
 use Rattle.kk_outside.proofs.Known.{WasGiven-written}
 use Rattle.kk_code.specs.Ticket.{ticket_text}
-use Rattle.kk_run_plan.proofs.plan.write_ticket.Goals as goal
+use Rattle.kk_run_plan.proofs.planning.write_ticket.Goals as goal
 
 pub returns-in-Ok-clause-given : goal.returns-in-Ok-clause-given
 returns-in-Ok-clause-given g c =
