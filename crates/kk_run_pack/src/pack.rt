@@ -8,7 +8,7 @@ ghost use Rattle.kk_sender.specs.SentFrames.{packed};
 ghost use Rattle.kk_report.specs.Command.{texts, IsRefusalOfWords, RanThrough};
 ghost use Rattle.kk_run_pack.specs.Pack.{Packs, frames_line, refusal_of};
 
-use crate::packing::write_capture;
+use crate::capture::write_capture;
 use kk_code::{Encoder, Ticket};
 use kk_forms::{Argument, Form};
 use kk_order::{OrderFault, OrderForm, TicketPlace, refuse_words};

@@ -1,7 +1,7 @@
 use Rattle.std.proofs.Common.{◌≡◌, []}
 use Rattle.kk_report.proofs.Blocks.{Added}
 use Rattle.kk_run_pack.proofs.Capturing.{text_to}
-use Rattle.kk_run_pack.proofs.packing.write_capture.Given as goal
+use Rattle.kk_run_pack.proofs.capture.write_capture.Given as goal
 
 abbrev pub invariant-loop-generation : goal.invariant-loop-generation
 invariant-loop-generation g l = record {

@@ -2,7 +2,7 @@ use Rattle.std.proofs.Common.{◌≡◌, take}
 use Rattle.kk_rows.specs.Rows.{numbers}
 use Rattle.kk_sender.specs.SentFrames.{vectors, text_of}
 use Rattle.kk_report.proofs.Blocks.{Added}
-use Rattle.kk_run_pack.proofs.packing.add_rows.Given as goal
+use Rattle.kk_run_pack.proofs.capture.add_rows.Given as goal
 
 abbrev pub invariant-loop-row : goal.invariant-loop-row
 invariant-loop-row g l = record {

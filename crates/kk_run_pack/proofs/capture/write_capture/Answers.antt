@@ -7,7 +7,7 @@ use Rattle.kk_sender.specs.SentFrames.{packed}
 use Rattle.kk_report.specs.Block.{Adds}
 use Rattle.kk_report.proofs.Blocks.{Added, Added-ok, Added-nothing, Added-after, Adds-after, Adds-err, Adds-stopped, WritesAllTo-added}
 use Rattle.kk_run_pack.proofs.Capturing.{rows_are, text_to, text_to-more, packed-all, packed-cut}
-use Rattle.kk_run_pack.proofs.packing.write_capture.Goals as goal
+use Rattle.kk_run_pack.proofs.capture.write_capture.Goals as goal
 
 pub loop-generation-init : goal.loop-generation-init
 loop-generation-init g c =

@@ -9,7 +9,7 @@ use Rattle.kk_sender.specs.SentFrames.{vectors, text_of}
 use Rattle.kk_report.specs.Block.{Adds}
 use Rattle.kk_report.proofs.Blocks.{Added, Added-ok, Added-after, Adds-after, Adds-err, Adds-ok, Adds-stopped}
 use Rattle.kk_run_pack.proofs.Capturing.{rows_text-more, rows_text-cut}
-use Rattle.kk_run_pack.proofs.packing.add_rows.Goals as goal
+use Rattle.kk_run_pack.proofs.capture.add_rows.Goals as goal
 
 -- what rows are read as past their end
 abbrev no_row : Row
