@@ -11,13 +11,7 @@ use Rattle.kk_order.specs.declared.order_form.TicketPlace.TheVariants.{First}
 use Rattle.kk_order.specs.Order.{Cause, IsRefusedFor, Order, first_broken, order_found, order_of, order_under, order_unless, order_with, ticket_text_in}
 use Rattle.kk_order.specs.Refuses.{IsRange, Refuses, status_of}
 use Rattle.kk_order.proofs.Refusals.{same_order}
-use Rattle.kk_run_pack.specs.Pack.{IsPackStatus, pack_form}
-
--- The words ask to pack under this ticket.
-pub record NamesTicket (words : List (List ℕ)) (t : TicketFields) : Type 0 where
-  pub order : Order
-  pub ordered : order_of pack_form words ≡ Ok order
-  pub ticket : t ≡ order.ticket
+use Rattle.kk_run_pack.specs.Pack.{IsPackStatus, NamesTicket, pack_form}
 
 -- what is said of the ticket that the words name holds by their order
 pub named_once : (words : List (List ℕ)) (P : TicketFields → Type 0) (t : TicketFields) (order : Order) → NamesTicket words t

@@ -22,8 +22,8 @@ use Rattle.kk_report.specs.Report.{concluded_text, IsConcluded}
 use Rattle.kk_order.specs.Order.{Cause, IsRefusedFor, Order, order_of}
 use Rattle.kk_order.specs.Refuses.{refused_text, status_of}
 use Rattle.kk_order.proofs.Refusals.{refusal_status, words_accepted, words_refused}
-use Rattle.kk_run_pack.specs.Pack.{frames_line, pack_form, Packs, refusal_of}
-use Rattle.kk_run_pack.proofs.Asking.{NamesTicket, named_once, only_memory, refused_alone}
+use Rattle.kk_run_pack.specs.Pack.{NamesTicket, frames_line, pack_form, Packs, refusal_of}
+use Rattle.kk_run_pack.proofs.Asking.{named_once, only_memory, refused_alone}
 use Rattle.kk_report.proofs.Statuses.{IsStatusOf, not_through, once_or_through, once_not_four, through_told, sinks_failed}
 
 -- a run that was refused while it read neither ended at once nor ran through
@@ -164,6 +164,18 @@ packs_unread words t len (file_fault.Length got more) status source file report 
 pub was_read : ◌≡◌ {A = Result (Unit {0}) FileFault} (Ok tt) (Err file_fault.Read) → ⊥
 was_read e = cc
 
+-- a run that went by an order doesn't end with the status of a refusal of its words
+pub unread_alone : (fault : FileFault) (status : ℕ) → status ≡ refusal_status_of (refusal_of fault) → IsRefusalOfWords status → ⊥
+unread_alone file_fault.Read status is once = once_or_late status once (inl is)
+unread_alone (file_fault.Length got more) status is once = once_or_late status once (inr is)
+
+touches : (told : Status) → (told ≡ Done) ⊎ (told ≡ OutputFault) → RanThrough (code_of told)
+touches told (inl done) = inl (ap code_of done)
+touches told (inr fault) = inr (ap code_of fault)
+
+pub read_alone : (told : Status) (status : ℕ) → (told ≡ Done) ⊎ (told ≡ OutputFault) → IsStatusOf (code_of told) status → IsRefusalOfWords status → ⊥
+read_alone told status tells same once = once_or_through status once (through_told (code_of told) status (touches told tells) same)
+
 -- it was read, and its capture went to the file's sink
 pub packs_read : (words : List (List ℕ)) (t : TicketFields) (len : ℕ) (told : Status) (status : ℕ) (bytes : List ℕ) (source : Change SourceTold) (file report : Change SinkTold)
     → NamesTicket words t → len ≡ t.length → IsReading len source (Ok tt) → length (bytes_read source) ≡ len → bytes ≡ bytes_read source
@@ -176,10 +188,6 @@ packs_read words t len told status bytes source file report named same reading w
     (touches told tells) (λ can. five_is told file tells (five can)) (subst (λ b. WasGiven (packed t b) file) are written)
     (subst (λ b. WasGiven (concluded_text (code_of told) (frames_line t b)) report) are given) outcome report_five
   where
-    touches : (s : Status) → (s ≡ Done) ⊎ (s ≡ OutputFault) → RanThrough (code_of s)
-    touches s (inl done) = inl (ap code_of done)
-    touches s (inr fault) = inr (ap code_of fault)
-
     five_is : (s : Status) (sink : Change SinkTold) → (s ≡ Done) ⊎ (s ≡ OutputFault) → (s ≡ OutputFault) ↔ SinkFailed sink → (code_of s ≡ 5) ↔ SinkFailed sink
     five_is s sink (inl done) h = (λ e. absurd (omega (arith, e, ap code_of done)), λ rose. ap code_of (h.1 rose))
     five_is s sink (inr fault) h = (λ _. h.0 fault, λ _. ap code_of fault)

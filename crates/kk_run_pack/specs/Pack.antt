@@ -31,6 +31,12 @@ pack_form = record {
   listeners = None;
 }
 
+-- The words ask to pack under this ticket.
+pub record NamesTicket (words : List (List ℕ)) (t : TicketFields) : Type 0 where
+  pub order : Order
+  pub ordered : order_of pack_form words ≡ Ok order
+  pub ticket : t ≡ order.ticket
+
 -- ---- the report and the status
 
 -- how many frames the capture has

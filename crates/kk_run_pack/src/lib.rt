@@ -3,5 +3,7 @@
 
 mod capture;
 mod pack;
+mod packing;
 
 pub use pack::{PACK, run_pack};
+pub use packing::Packing;

@@ -1,6 +1,6 @@
 //! `pack` over sources and sinks in memory.
 use kk_outside::{Alloc, MemorySink, MemorySource};
-use kk_run_pack::run_pack;
+use kk_run_pack::{Packing, run_pack};
 use kk_worked::{FIVE_AND_ZEROS, ONE_BYTE, capture, texts};
 use std::alloc::Global;
 use std::process::Abort;
@@ -72,6 +72,23 @@ fn expect(
 #[test]
 fn the_capture_of_one_byte(rt: HostRuntime) -> Result<(), Fail> {
     expect(&rt, rt.alloc(), &A0, 0, "frames 10\nstatus 0\n", 200)?;
+    Ok(())
+}
+
+/// The opening has no source yet, and the run has no allocator.
+#[test]
+fn an_opening_and_its_run(rt: HostRuntime) -> Result<(), Fail> {
+    let alloc = rt.alloc();
+    let words = texts(alloc, A0.words)?;
+    let mut source = source_of(alloc, &A0)?;
+    let mut file = MemorySink::new(alloc, 1000, 150, Vec::new(alloc))?;
+    let mut report = MemorySink::new(alloc, 1000, 100, Vec::new(alloc))?;
+    let status = match Packing::open(alloc, &words) {
+        Ok(packing) => Some(packing.run(&mut source, &mut file, &mut report)),
+        Err(_) => None,
+    };
+    assert_eq!(rt; status, Some(0));
+    assert_eq!(rt; file.bytes().len(), 200);
     Ok(())
 }
 
