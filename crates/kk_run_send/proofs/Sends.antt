@@ -23,11 +23,11 @@ use Rattle.kk_report.specs.Command.{IsRefusalOfWords}
 use Rattle.kk_report.specs.Refusal.{refusal_text, status_of as refusal_status_of}
 use Rattle.kk_report.specs.Report.{concluded_text}
 use Rattle.kk_report.proofs.Statuses.{IsStatusOf, not_through, once_not_four, once_or_through, through_told}
-use Rattle.kk_order.specs.Order.{Cause, IsRefusedFor, Memory, Order, order_of}
+use Rattle.kk_order.specs.Order.{Cause, IsRefusedFor, Order, order_of}
 use Rattle.kk_order.specs.Refuses.{refused_text, status_of}
 use Rattle.kk_order.specs.Seed.{words_of}
 use Rattle.kk_order.proofs.Refusals.{refusal_status, same_order, words_accepted, words_refused}
-use Rattle.kk_run_send.specs.Send.{send_form, combinations, datagram_frames, ordered_datagrams, ordered_frames, sent_line, Sends, refusal_of}
+use Rattle.kk_run_send.specs.Send.{AsksFor, Sending, send_form, sending_of, combinations, datagram_frames, ordered_datagrams, ordered_frames, sent_line, Sends, refusal_of}
 
 -- what is said of one order in the words is said of each
 by_order : (words : List (List ℕ)) (P : Order → Type 0) (a b : Order) → order_of send_form words ≡ Ok a → order_of send_form words ≡ Ok b → P a → P b
@@ -64,16 +64,14 @@ sends_refused words cause status source outlet report why is given =
 
 -- what sending under a ticket says of its answer, where this list is sent of the bytes that were read
 pub record IsSending (t : TicketFields) (list : List (List ℕ)) (source : Change SourceTold) (outlet : Change OutletTold) (result : Result Sent SendFault) : Type 0 where
-  pub wrong : (got : ℕ) (more : Bool) → (result ≡ Err fault.Alloc → ⊥) → (result ≡ Err fault.Read → ⊥)
+  pub wrong : (got : ℕ) (more : Bool) → (result ≡ Err fault.Read → ⊥)
       → ((result ≡ Err (fault.Length got more)) ↔ (wrong_length t.length (length (bytes_read source)) ≡ Some (got, more)))
   pub source_failed : CanCount source.old.faults → ((result ≡ Err fault.Read) ↔ SourceFailed source)
   pub outlet_failed : CanCount outlet.old.faults → ((result ≡ Err fault.Outlet) ↔ OutletFailed outlet)
-  pub read : (result ≡ Err fault.Alloc → ⊥) → (result ≡ Err fault.Read → ⊥) → ReadsToLength t.length source
+  pub read : (result ≡ Err fault.Read → ⊥) → ReadsToLength t.length source
   pub before : result ≡ Err fault.Read → FailsWithinLength t.length source
-  pub left : (result ≡ Err fault.Alloc → ⊥) → (result ≡ Err fault.Read → ⊥) → IfSome source.old.left (λ bytes. LeavesAfterLength t.length bytes source)
+  pub left : (result ≡ Err fault.Read → ⊥) → IfSome source.old.left (λ bytes. LeavesAfterLength t.length bytes source)
   pub prefix : result ≡ Err fault.Outlet → IsCutShort outlet list
-  pub unread : result ≡ Err fault.Alloc → source.new ≡ source.old
-  pub unsent : result ≡ Err fault.Alloc → outlet.new ≡ outlet.old
 
 -- what sending by an order says of its answer
 abbrev pub IsSendingBy : Order → Change SourceTold → Change OutletTold → Result Sent SendFault → Type 0
@@ -83,23 +81,14 @@ IsSendingBy order source outlet result = IsSending order.ticket (ordered_datagra
 abbrev Answer : Type 0
 Answer = Result Sent SendFault
 
-read_alloc : ◌≡◌ {A = Answer} (Err fault.Read) (Err fault.Alloc) → ⊥
-read_alloc e = cc
-
 read_outlet : ◌≡◌ {A = Answer} (Err fault.Read) (Err fault.Outlet) → ⊥
 read_outlet e = cc
-
-length_alloc : (got : ℕ) (more : Bool) → ◌≡◌ {A = Answer} (Err (fault.Length got more)) (Err fault.Alloc) → ⊥
-length_alloc got more e = cc
 
 length_read : (got : ℕ) (more : Bool) → ◌≡◌ {A = Answer} (Err (fault.Length got more)) (Err fault.Read) → ⊥
 length_read got more e = cc
 
 length_outlet : (got : ℕ) (more : Bool) → ◌≡◌ {A = Answer} (Err (fault.Length got more)) (Err fault.Outlet) → ⊥
 length_outlet got more e = cc
-
-outlet_alloc : ◌≡◌ {A = Answer} (Err fault.Outlet) (Err fault.Alloc) → ⊥
-outlet_alloc e = cc
 
 outlet_read : ◌≡◌ {A = Answer} (Err fault.Outlet) (Err fault.Read) → ⊥
 outlet_read e = cc
@@ -147,10 +136,9 @@ once_not_nine status once nine = grind arith
 sends_wrong_length : (words : List (List ℕ)) (order : Order) (got : ℕ) (more : Bool) (status : ℕ) (source : Change SourceTold) (outlet : Change OutletTold) (report : Change SinkTold)
     → order_of send_form words ≡ Ok order → IsSendingBy order source outlet (Err (fault.Length got more)) → status ≡ 9 → WasGiven (refusal_text (Length got more)) report → Sends words source report outlet status
 sends_wrong_length words order got more status source outlet report ordered sending is given =
-    let no_alloc = length_alloc got more in
     let no_read = length_read got more in
-    let wrong = (sending.wrong got more no_alloc no_read).0 refl in
-    let read = sending.read no_alloc no_read in
+    let wrong = (sending.wrong got more no_read).0 refl in
+    let read = sending.read no_read in
     let n = length (bytes_read source) in
     let other_length : n ≡ order.ticket.length → ⊥ = λ same. false≢true (ap is_some (sym (right-told order.ticket.length n same) ∙ wrong)) in
     let once : IsRefusalOfWords status → ⊥ = λ once. once_not_nine status once is in
@@ -163,7 +151,7 @@ sends_wrong_length words order got more status source outlet report ordered send
       no_other_status = inr (inr (inr (inl is)));
       read_to_length = λ other by _. by_order words (λ o. ReadsToLength o.ticket.length source) order other ordered by.ordered read;
       failed_within_length = λ other by four. absurd (omega (arith, four, is));
-      remainder = λ other by _. by_order words (λ o. IfSome source.old.left (λ bytes. LeavesAfterLength o.ticket.length bytes source)) order other ordered by.ordered (sending.left no_alloc no_read);
+      remainder = λ other by _. by_order words (λ o. IfSome source.old.left (λ bytes. LeavesAfterLength o.ticket.length bytes source)) order other ordered by.ordered (sending.left no_read);
       sent = λ other by sent. absurd (not_through 9 status refl is sent);
       prefix = λ other by seven. absurd (omega (arith, seven, is));
       refused = λ _ _. (order, ordered, (Length got more, (read, wrong), record { tells = is; given = given }));
@@ -174,7 +162,7 @@ sends_wrong_length words order got more status source outlet report ordered send
 sends_cut : (words : List (List ℕ)) (order : Order) (status : ℕ) (source : Change SourceTold) (outlet : Change OutletTold) (report : Change SinkTold)
     → order_of send_form words ≡ Ok order → IsSendingBy order source outlet (Err fault.Outlet) → status ≡ 7 → WasGiven (refusal_text Outlet) report → Sends words source report outlet status
 sends_cut words order status source outlet report ordered sending is given =
-    let whole = right_length order.ticket.length (length (bytes_read source)) (λ got more wrong. outlet_length got more ((sending.wrong got more outlet_alloc outlet_read).1 wrong)) in
+    let whole = right_length order.ticket.length (length (bytes_read source)) (λ got more wrong. outlet_length got more ((sending.wrong got more outlet_read).1 wrong)) in
     let prefix = sending.prefix refl in
     let once : IsRefusalOfWords status → ⊥ = λ once. once_not_seven status once is in
     record {
@@ -184,9 +172,9 @@ sends_cut words order status source outlet report ordered sending is given =
       outlet_fault = λ can. (λ _. (sending.outlet_failed can).0 refl, λ _. is);
       output_fault = λ can sent. absurd (not_through 7 status refl is sent);
       no_other_status = inr (inr (inl is));
-      read_to_length = λ other by _. by_order words (λ o. ReadsToLength o.ticket.length source) order other ordered by.ordered (sending.read outlet_alloc outlet_read);
+      read_to_length = λ other by _. by_order words (λ o. ReadsToLength o.ticket.length source) order other ordered by.ordered (sending.read outlet_read);
       failed_within_length = λ other by four. absurd (omega (arith, four, is));
-      remainder = λ other by _. by_order words (λ o. IfSome source.old.left (λ bytes. LeavesAfterLength o.ticket.length bytes source)) order other ordered by.ordered (sending.left outlet_alloc outlet_read);
+      remainder = λ other by _. by_order words (λ o. IfSome source.old.left (λ bytes. LeavesAfterLength o.ticket.length bytes source)) order other ordered by.ordered (sending.left outlet_read);
       sent = λ other by sent. absurd (not_through 7 status refl is sent);
       prefix = λ other by _. by_order words (λ o. IsCutShort outlet (ordered_datagrams o (bytes_read source))) order other ordered by.ordered prefix;
       refused = λ _ _. (order, ordered, (Outlet, prefix, record { tells = is; given = given }));
@@ -194,15 +182,21 @@ sends_cut words order status source outlet report ordered sending is given =
     }
 
 -- it wasn't sent, for whichever fault
-pub sends_failed : (words : List (List ℕ)) (order : Order) (f : SendFault) (status : ℕ) (s0 s1 : SourceTold) (o0 o1 : OutletTold) (report : Change SinkTold)
-    → order_of send_form words ≡ Ok order → IsSendingBy order (change s0 s1) (change o0 o1) (Err f) → status ≡ refusal_status_of (refusal_of f) → WasGiven (refusal_text (refusal_of f)) report
-    → Sends words (change s0 s1) report (change o0 o1) status
-sends_failed words order fault.Alloc status s0 s1 o0 o1 report ordered sending is given =
-    subst (λ s. Sends words (change s0 s) report (change o0 o1) status) (sym (sending.unread refl))
-    (subst (λ o. Sends words (change s0 s0) report (change o0 o) status) (sym (sending.unsent refl)) (sends_refused words Memory status s0 o0 report (inl refl) is given))
-sends_failed words order fault.Read status s0 s1 o0 o1 report ordered sending is given = sends_unread words order status (change s0 s1) (change o0 o1) report ordered sending is given
-sends_failed words order (fault.Length got more) status s0 s1 o0 o1 report ordered sending is given = sends_wrong_length words order got more status (change s0 s1) (change o0 o1) report ordered sending is given
-sends_failed words order fault.Outlet status s0 s1 o0 o1 report ordered sending is given = sends_cut words order status (change s0 s1) (change o0 o1) report ordered sending is given
+pub sends_failed : (words : List (List ℕ)) (order : Order) (f : SendFault) (status : ℕ) (source : Change SourceTold) (outlet : Change OutletTold) (report : Change SinkTold)
+    → order_of send_form words ≡ Ok order → IsSendingBy order source outlet (Err f) → status ≡ refusal_status_of (refusal_of f) → WasGiven (refusal_text (refusal_of f)) report
+    → Sends words source report outlet status
+sends_failed words order fault.Read status source outlet report ordered sending is given = sends_unread words order status source outlet report ordered sending is given
+sends_failed words order (fault.Length got more) status source outlet report ordered sending is given = sends_wrong_length words order got more status source outlet report ordered sending is given
+sends_failed words order fault.Outlet status source outlet report ordered sending is given = sends_cut words order status source outlet report ordered sending is given
+
+-- a run that went by an order doesn't end with the status of a refusal of its words
+pub failed_alone : (f : SendFault) (status : ℕ) → status ≡ refusal_status_of (refusal_of f) → IsRefusalOfWords status → ⊥
+failed_alone fault.Read status is once = once_not_four status once is
+failed_alone (fault.Length got more) status is once = once_not_nine status once is
+failed_alone fault.Outlet status is once = once_not_seven status once is
+
+pub done_alone : (status : ℕ) → IsStatusOf 0 status → IsRefusalOfWords status → ⊥
+done_alone status same once = once_or_through status once (through_told 0 status (inl refl) same)
 
 -- all was sent
 pub sends_done : (words : List (List ℕ)) (order : Order) (sent : Sent) (told status : ℕ) (source : Change SourceTold) (outlet : Change OutletTold) (report : Change SinkTold)
@@ -212,7 +206,7 @@ pub sends_done : (words : List (List ℕ)) (order : Order) (sent : Sent) (told s
 sends_done words order sent told status source outlet report ordered sending went given done same five =
     let never = sent_err sent in
     let through = through_told told status (inl done) same in
-    let whole = right_length order.ticket.length (length (bytes_read source)) (λ got more wrong. never (fault.Length got more) ((sending.wrong got more (never fault.Alloc) (never fault.Read)).1 wrong)) in
+    let whole = right_length order.ticket.length (length (bytes_read source)) (λ got more wrong. never (fault.Length got more) ((sending.wrong got more (never fault.Read)).1 wrong)) in
     record {
       refusals = words_accepted (order_of send_form words) order status report ordered (λ once. once_or_through status once through);
       input_fault = λ can. (λ e. absurd (not_through 4 status refl e through), λ rose. absurd (never fault.Read ((sending.source_failed can).1 rose)));
@@ -220,9 +214,9 @@ sends_done words order sent told status source outlet report ordered sending wen
       outlet_fault = λ can. (λ e. absurd (not_through 7 status refl e through), λ rose. absurd (never fault.Outlet ((sending.outlet_failed can).1 rose)));
       output_fault = λ can _. five can done;
       no_other_status = inr (inr (inr (inr through)));
-      read_to_length = λ other by _. by_order words (λ o. ReadsToLength o.ticket.length source) order other ordered by.ordered (sending.read (never fault.Alloc) (never fault.Read));
+      read_to_length = λ other by _. by_order words (λ o. ReadsToLength o.ticket.length source) order other ordered by.ordered (sending.read (never fault.Read));
       failed_within_length = λ other by e. absurd (not_through 4 status refl e through);
-      remainder = λ other by _. by_order words (λ o. IfSome source.old.left (λ bytes. LeavesAfterLength o.ticket.length bytes source)) order other ordered by.ordered (sending.left (never fault.Alloc) (never fault.Read));
+      remainder = λ other by _. by_order words (λ o. IfSome source.old.left (λ bytes. LeavesAfterLength o.ticket.length bytes source)) order other ordered by.ordered (sending.left (never fault.Read));
       sent = λ other by _. by_order words (λ o. outlet.new.sends ≡ append_datagrams outlet.old.sends (ordered_datagrams o (bytes_read source))) order other ordered by.ordered went;
       prefix = λ other by e. absurd (not_through 7 status refl e through);
       refused = λ _ unsent. absurd (unsent through);
@@ -237,6 +231,22 @@ pub record Asks (order : Order) (t : TicketFields) (seed : List ℕ) (extra pack
   pub seeded : Some seed ≡ order.seed
   pub extra_is : extra ≡ combinations order
   pub pack_is : pack ≡ datagram_frames order
+
+-- what a sender goes by, from what its order asks for
+pub goes_by : (order : Order) (t : TicketFields) (seed : Option (List ℕ)) (extra pack : ℕ) → t ≡ order.ticket → seed ≡ order.seed → extra ≡ combinations order → pack ≡ datagram_frames order
+    → ◌≡◌ {A = Sending} (record { ticket = t; seed = seed; extra = extra; frames_per_datagram = pack }) (sending_of order)
+goes_by order t seed extra pack a b c d = λ i. record { ticket = a i; seed = b i; extra = c i; frames_per_datagram = d i }
+
+pub asks_by : (words : List (List ℕ)) (sending : Sending) (asked : AsksFor words sending) (t : TicketFields) (seed : List ℕ) (extra pack : ℕ)
+    → ◌≡◌ {A = Sending} (record { ticket = t; seed = Some seed; extra = extra; frames_per_datagram = pack }) sending → Asks asked.order t seed extra pack
+asks_by words sending asked t seed extra pack is =
+    let own = is ∙ asked.same in
+    record {
+      ticket = ap (λ (s : Sending). s.ticket) own;
+      seeded = ap (λ (s : Sending). s.seed) own;
+      extra_is = ap (λ (s : Sending). s.extra) own;
+      pack_is = ap (λ (s : Sending). s.frames_per_datagram) own;
+    }
 
 pub datagrams_by : (order : Order) (t : TicketFields) (seed : List ℕ) (extra pack : ℕ) (file : List ℕ) (rng : ChaCha) → Asks order t seed extra pack → rng ≡ of_seed seed
     → sent_datagrams t file extra pack (word_at (stream_of (steps_u32 (next_word 10)) rng)) ≡ ordered_datagrams order file
@@ -263,6 +273,3 @@ pub line_by : (order : Order) (file : List ℕ) (datagrams frames : ℕ) → dat
 line_by order file datagrams frames many some =
     ap (λ (n : ℕ). codes "datagrams " ++ decimal n ++ codes " frames " ++ decimal frames ++ codes "\n") many
     ∙ ap (λ (n : ℕ). codes "datagrams " ++ decimal (length (ordered_datagrams order file)) ++ codes " frames " ++ decimal n ++ codes "\n") some
-
-pub alloc_outlet : (f : SendFault) → ◌≡◌ {A = Answer} (Err f) (Err fault.Alloc) → ◌≡◌ {A = Answer} (Err f) (Err fault.Outlet) → ⊥
-alloc_outlet f a b = cc

@@ -1,12 +1,12 @@
 -- `send`: a file comes in, and goes out in datagrams.
-use Rattle.std.specs.Prelude.{◌≡◌, ◌↔◌, ◌⊎◌, ℕ, ◌+◌, List, [], ◌∷◌, ◌++◌, length, codes, Some, None, IfSome, Ok}
+use Rattle.std.specs.Prelude.{◌≡◌, ◌↔◌, ◌⊎◌, ℕ, ◌+◌, List, [], ◌∷◌, ◌++◌, length, codes, Option, Some, None, IfSome, Ok}
 use Rattle.std.specs.Fmt.{decimal}
 use Rattle.kk_outside.specs.Causes.{CanCount}
 use Rattle.kk_outside.specs.Change.{Change}
 use Rattle.kk_outside.specs.Source.{SourceTold, SourceFailed, bytes_read}
 use Rattle.kk_outside.specs.Sink.{SinkTold, SinkFailed, WasGiven}
 use Rattle.kk_outside.specs.Outlet.{OutletTold, OutletFailed, append_datagrams}
-use Rattle.kk_code.specs.Ticket.{generations}
+use Rattle.kk_code.specs.Ticket.{TicketFields, generations}
 use Rattle.kk_frame.specs.declared.datagram.TheConstants.{MAX_DATAGRAM_FRAMES}
 use Rattle.kk_sender.specs.declared.rows.TheConstants.{MAX_EXTRA}
 use Rattle.kk_sender.specs.LengthRule.{wrong_length, ReadsToLength, FailsWithinLength, LeavesAfterLength}
@@ -15,7 +15,7 @@ use Rattle.kk_outside.specs.Outlet.{IsCutShort}
 use Rattle.kk_sender.specs.declared.fault.SendFault.{SendFault}
 use Rattle.kk_sender.specs.declared.fault.SendFault.TheVariants as send_fault
 use Rattle.kk_report.specs.declared.refusal.Refusal.{Refusal}
-use Rattle.kk_report.specs.declared.refusal.Refusal.TheVariants.{Input, Length, Outlet, Memory}
+use Rattle.kk_report.specs.declared.refusal.Refusal.TheVariants.{Input, Length, Outlet}
 use Rattle.kk_report.specs.Command.{IsRefusalOfWords, RanThrough}
 use Rattle.kk_report.specs.Refusal.{IsRefused}
 use Rattle.kk_report.specs.Report.{concluded_text}
@@ -50,6 +50,23 @@ combinations order = number_of order (codes "extra")
 abbrev pub datagram_frames : Order → ℕ
 datagram_frames order = number_of order (codes "pack")
 
+-- what a sender goes by: a ticket, the seed, how many combinations of each generation, and how many frames a datagram has
+pub record Sending : Type 0 where
+  pub ticket : TicketFields
+  pub seed : Option (List ℕ)
+  pub extra : ℕ
+  pub frames_per_datagram : ℕ
+
+-- what a sender goes by, by an order
+abbrev pub sending_of : Order → Sending
+sending_of order = record { ticket = order.ticket; seed = order.seed; extra = combinations order; frames_per_datagram = datagram_frames order }
+
+-- The words ask for this sending.
+pub record AsksFor (words : List (List ℕ)) (sending : Sending) : Type 0 where
+  pub order : Order
+  pub ordered : order_of send_form words ≡ Ok order
+  pub same : sending ≡ sending_of order
+
 -- A run with these words and this status sent by this order: it wasn't refused before.
 pub record SendsBy (order : Order) (words : List (List ℕ)) (status : ℕ) : Type 0 where
   pub ordered : order_of send_form words ≡ Ok order
@@ -69,7 +86,6 @@ ordered_frames order file = length (data_frames (sent_rows order.ticket file (co
 
 -- why a run is refused whose file isn't sent
 abbrev pub refusal_of : SendFault → Refusal
-refusal_of send_fault.Alloc = Memory
 refusal_of send_fault.Read = Input
 refusal_of (send_fault.Length got more) = Length got more
 refusal_of send_fault.Outlet = Outlet

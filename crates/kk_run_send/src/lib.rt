@@ -2,5 +2,7 @@
 #![tactic(auto)]
 
 mod send;
+mod sending;
 
 pub use send::{SEND, run_send};
+pub use sending::Sending;

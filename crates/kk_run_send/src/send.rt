@@ -1,17 +1,15 @@
 //! `send`: a file comes in, and goes out in datagrams.
-ghost use Rattle.std.specs.Prelude.{◌≡◌, ◌++◌, codes, decimal};
+ghost use Rattle.std.specs.Prelude.{◌≡◌};
 ghost use Rattle.kk_outside.specs.Change.{change};
 ghost use Rattle.kk_report.specs.Command.{texts, IsRefusalOfWords, RanThrough};
-ghost use Rattle.kk_run_send.specs.Send.{Sends, refusal_of};
+ghost use Rattle.kk_run_send.specs.Send.{Sends};
 
+use crate::Sending;
 use kk_forms::{Argument, Form};
 use kk_frame::MAX_DATAGRAM_FRAMES;
 use kk_order::{Bound, Limit, OrderForm, TicketPlace, refuse_words};
 use kk_outside::{Outlet, Sink, Source};
-use kk_report::{LongLine, Refusal, Status, conclude, push_count, refuse};
-use kk_sender::{MAX_EXTRA, SendFault, Sent, send_all};
-use rand_chacha::ChaCha20Rng;
-use rand_core::SeedableRng;
+use kk_sender::MAX_EXTRA;
 use std::alloc::Global;
 
 /// The words of `send`: the ticket, the target, the seed, how many combinations of each generation are sent, and how many
@@ -53,8 +51,8 @@ pub const SEND: OrderForm = OrderForm {
 /// frames in datagrams, and END.
 ///
 /// `words` are `send`, the ticket, the target, which whoever made the outlet has read, and the options `--seed`, `--extra`
-/// and `--pack`. The answer is the status, which the report tells too. All memory is taken before the first call on the
-/// source, the report or the outlet.
+/// and `--pack`. The answer is the status, which the report tells too. All memory is taken by [`Sending::open`], which is
+/// handed neither source nor report nor outlet.
 pub fn run_send<S: Source, P: Sink, O: Outlet>(
     alloc: Global,
     words: &[String],
@@ -69,40 +67,8 @@ pub fn run_send<S: Source, P: Sink, O: Outlet>(
     ensures unread { IsRefusalOfWords result → source.new ≡ source.old }
     ensures unsent { (RanThrough result → ⊥) → (result ≡ 7 → ⊥) → outlet.new ≡ outlet.old }
 {
-    let order = match SEND.read(alloc, words) {
-        Ok(order) => order,
-        Err(fault) => return refuse_words(fault, report),
-    };
-    let seed = order.seed().unwrap();
-    let extra = order.number("extra").unwrap() as u32;
-    let pack = order.number("pack").unwrap() as u32;
-    let mut rng = ChaCha20Rng::from_seed(seed);
-    let sent = send_all(alloc, order.ticket(), source, &mut rng, extra, pack, outlet);
-    match sent {
-        Ok(sent) => conclude(Status::Done, sent_line(&sent).as_str(), report),
-        Err(fault) => refuse(refusal_of(fault), report),
-    }
-}
-
-/// The line that tells how much was sent.
-fn sent_line(sent: &Sent) -> LongLine
-    ensures { result.bytes ≡ codes "datagrams " ++ decimal sent.now.datagrams ++ codes " frames " ++ decimal sent.now.frames ++ codes "\n" }
-{
-    let mut line = LongLine::new();
-    push_count(&mut line, "datagrams ", sent.datagrams);
-    push_count(&mut line, " frames ", sent.frames);
-    line.push_str("\n");
-    line
-}
-
-/// Why a run is refused whose file isn't sent.
-fn refusal_of(fault: SendFault) -> Refusal
-    ensures { result ≡ refusal_of fault }
-{
-    match fault {
-        SendFault::Alloc => Refusal::Memory,
-        SendFault::Read => Refusal::Input,
-        SendFault::Length { got, more } => Refusal::Length { got, more },
-        SendFault::Outlet => Refusal::Outlet,
+    match Sending::open(alloc, words) {
+        Ok(sending) => sending.run(source, report, outlet),
+        Err(fault) => refuse_words(fault, report),
     }
 }

@@ -19,8 +19,6 @@ pub enum FileFault {
 /// Why a file isn't sent.
 #[derive(Clone, Copy, Debug, PartialEq, Eq)]
 pub enum SendFault {
-    /// There is no memory.
-    Alloc,
     /// The source failed.
     Read,
     /// The source doesn't have as many bytes as the file.

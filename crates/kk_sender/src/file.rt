@@ -1,21 +1,12 @@
 //! The file, from its source into memory.
-ghost use Rattle.std.specs.Prelude.{◌≡◌, ◌↔◌, ◌+◌, ◌-◌, ◌<◌, ℕ, Bool, Some, None, Ok, Err, length, take, vec_len, IfOk, OnOk, IfSome, IsOk};
+ghost use Rattle.std.specs.Prelude.{◌≡◌, ◌↔◌, ◌-◌, ◌<◌, ℕ, Bool, Some, None, Ok, Err, length, take, OnOk, IfSome, IsOk};
 ghost use Rattle.kk_outside.specs.Causes.{CanCount};
 ghost use Rattle.kk_outside.specs.Change.{change};
 ghost use Rattle.kk_outside.specs.Source.{SourceFailed, bytes_read};
 ghost use Rattle.kk_sender.specs.LengthRule.{wrong_length, ReadsToLength, FailsWithinLength, LeavesAfterLength};
 
 use crate::FileFault;
-use kk_code::Ticket;
-use kk_outside::{Alloc, Source, fill, zeroed};
-use std::alloc::Global;
-
-/// Room for the file of a ticket and one byte more, as [`read_file`] takes it.
-pub fn room_for_file(alloc: Global, ticket: &Ticket) -> Result<Vec<u8>, Alloc>
-    ensures { IfOk result (λ room. vec_len room ≡ ticket.now.length + 1) }
-{
-    zeroed(alloc, ticket.length() as usize + 1)
-}
+use kk_outside::{Source, fill};
 
 /// Reads a file into all of `room` but its last byte, which is there to see whether the source has more.
 ///

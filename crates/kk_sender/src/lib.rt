@@ -8,9 +8,11 @@ mod file;
 pub mod laws;
 mod rows;
 mod send;
+mod sender;
 
 pub use fault::{FileFault, SendFault};
-pub use file::{read_file, room_for_file};
+pub use file::read_file;
 pub use kk_outside::Alloc;
 pub use rows::MAX_EXTRA;
-pub use send::{Sent, capture_frames, send_all};
+pub use send::{Sent, capture_frames};
+pub use sender::Sender;

@@ -1,29 +1,25 @@
-//! A file, from its source to an outlet.
-ghost use Rattle.std.specs.Prelude.{◌≡◌, ◌↔◌, ◌+◌, ◌*◌, ◌^◌, ◌<◌, ◌≤◌, ℕ, Bool, List, [], ◌∷◌, ◌++◌, Some, None, Err, All, length, IfOk, OnOk, OnErr, IfSome};
+//! The datagrams of a file that is in memory, to their outlet.
+ghost use Rattle.std.specs.Prelude.{◌≡◌, ◌+◌, ◌*◌, ◌<◌, ◌≤◌, ◌^◌, ℕ, List, ◌++◌, All, length, OnOk, OnErr};
 ghost use Rattle.std.specs.Int.{div_ceil};
 ghost use Rattle.kk_rows.specs.Rows.{numbers};
-ghost use Rattle.kk_outside.specs.Causes.{CanCount, HasCause};
+ghost use Rattle.kk_outside.specs.Causes.{HasCause};
 ghost use Rattle.kk_outside.specs.Change.{change};
-ghost use Rattle.kk_outside.specs.Source.{SourceFailed, bytes_read};
-ghost use Rattle.kk_outside.specs.Outlet.{IsCutShort, OutletTold, OutletFailed, append_datagrams};
+ghost use Rattle.kk_outside.specs.Outlet.{IsCutShort, OutletTold, append_datagrams};
 ghost use Rattle.kk_code.specs.Codeword.{width};
-ghost use Rattle.kk_code.specs.Ticket.{TicketFields, generations};
+ghost use Rattle.kk_code.specs.Ticket.{generations};
 ghost use Rattle.kk_frame.specs.Frame.{FrameValue};
 ghost use Rattle.kk_outside.specs.Generator.{after_words, word_at};
-ghost use Rattle.kk_sender.specs.SentFrames.{sent_rows, vectors, data_frames, capture_frames, sent_datagrams};
-ghost use Rattle.kk_sender.specs.LengthRule.{wrong_length, ReadsToLength, FailsWithinLength, LeavesAfterLength};
+ghost use Rattle.kk_sender.specs.SentFrames.{vectors, capture_frames, sent_datagrams};
 ghost use Rattle.kk_sender.specs.Sending.{IsPending, IsCut};
 
 use crate::datagram::Datagram;
 use crate::rows::{MAX_EXTRA, sent_rows};
-use crate::{SendFault, read_file, room_for_file};
 use kk_assemble::cut;
 use kk_code::{Encoder, Ticket};
 use kk_frame::{Frame, MAX_DATAGRAM_FRAMES, send_frame};
-use kk_outside::{Failed, Outlet, Source};
+use kk_outside::{Failed, Outlet};
 use kk_rows::Row;
 use rand_core::Rng;
-use std::alloc::Global;
 
 /// How much was sent.
 #[derive(Clone, Copy, Debug, PartialEq, Eq)]
@@ -34,80 +30,9 @@ pub struct Sent {
     pub datagrams: u64,
 }
 
-/// Sends a file: per generation the rows of its codeword, and `extra` combinations of them by the words of the generator,
-/// as frames in datagrams of `frames_per_datagram`, across generations; and then END in a datagram of its own.
-///
-/// The whole file is read before anything is sent, and all memory is taken before the first read.
-pub fn send_all<S: Source, R: Rng, O: Outlet>(
-    alloc: Global,
-    ticket: &Ticket,
-    source: &mut S,
-    rng: &mut R,
-    extra: u32,
-    frames_per_datagram: u32,
-    outlet: &mut O,
-) -> Result<Sent, SendFault>
-    requires extra { extra ≤ MAX_EXTRA }
-    requires some { 1 ≤ frames_per_datagram }
-    requires few { frames_per_datagram ≤ MAX_DATAGRAM_FRAMES }
-
-    // Which answer comes: `Alloc` is want of memory.
-    ensures wrong_length { (got : ℕ) (more : Bool) → (result ≡ Err SendFault.Alloc → ⊥) → (result ≡ Err SendFault.Read → ⊥)
-        → ((result ≡ Err (SendFault.Length got more)) ↔ (wrong_length ticket.now.length (length (bytes_read (change (S.told source.old) (S.told source.new)))) ≡ Some (got, more))) }
-    ensures source_failed { CanCount (S.told source.old).faults
-        → ((result ≡ Err SendFault.Read) ↔ SourceFailed (change (S.told source.old) (S.told source.new))) }
-    ensures outlet_failed { CanCount (O.told outlet.old).faults
-        → ((result ≡ Err SendFault.Outlet) ↔ OutletFailed (change (O.told outlet.old) (O.told outlet.new))) }
-
-    // What was read of the source.
-    ensures unread { result ≡ Err SendFault.Alloc → source.new ≡ source.old }
-    ensures read { (result ≡ Err SendFault.Alloc → ⊥) → (result ≡ Err SendFault.Read → ⊥)
-        → ReadsToLength ticket.now.length (change (S.told source.old) (S.told source.new)) }
-    ensures failed_before { result ≡ Err SendFault.Read → FailsWithinLength ticket.now.length (change (S.told source.old) (S.told source.new)) }
-    ensures remainder { (result ≡ Err SendFault.Alloc → ⊥) → (result ≡ Err SendFault.Read → ⊥)
-        → IfSome (S.told source.old).left (λ bytes. LeavesAfterLength ticket.now.length bytes (change (S.told source.old) (S.told source.new))) }
-
-    // What was sent.
-    ensures sent { OnOk result ((O.told outlet.new).sends ≡ append_datagrams (O.told outlet.old).sends
-        (sent_datagrams ticket.now (bytes_read (change (S.told source.old) (S.told source.new))) extra frames_per_datagram (word_at (R.stream rng.old)))) }
-    ensures frames { IfOk result (λ sent. sent.frames ≡ length (data_frames
-        (sent_rows ticket.now (bytes_read (change (S.told source.old) (S.told source.new))) extra (word_at (R.stream rng.old))) (generations ticket.now)) + 1) }
-    ensures datagrams { IfOk result (λ sent. sent.datagrams ≡ length
-        (sent_datagrams ticket.now (bytes_read (change (S.told source.old) (S.told source.new))) extra frames_per_datagram (word_at (R.stream rng.old)))) }
-    ensures prefix { result ≡ Err SendFault.Outlet → IsCutShort (change (O.told outlet.old) (O.told outlet.new))
-        (sent_datagrams ticket.now (bytes_read (change (S.told source.old) (S.told source.new))) extra frames_per_datagram (word_at (R.stream rng.old))) }
-    ensures unsent { OnErr result ((result ≡ Err SendFault.Outlet → ⊥) → outlet.new ≡ outlet.old) }
-
-    // What was drawn of the generator.
-    ensures words { OnOk result (R.stream rng.new ≡ after_words (generations ticket.now * extra) (R.stream rng.old)) }
-    ensures no_words { OnErr result ((result ≡ Err SendFault.Outlet → ⊥) → rng.new ≡ rng.old) }
-{
-    let Ok(mut room) = room_for_file(alloc, ticket) else {
-        return Err(SendFault::Alloc);
-    };
-    let Ok(encoder) = Encoder::new(alloc, &ticket.code()) else {
-        return Err(SendFault::Alloc);
-    };
-    read_file(source, &mut room)?;
-    let file = &room[..ticket.length() as usize];
-    let sent = send_file(
-        ticket,
-        &encoder,
-        file,
-        rng,
-        extra,
-        frames_per_datagram,
-        outlet,
-    );
-    match sent {
-        Ok(()) => Ok(Sent::of(ticket, extra, frames_per_datagram)),
-        Err(_) => Err(SendFault::Outlet),
-    }
-}
-
 impl Sent {
     /// How much is sent of a file.
-    fn of(ticket: &Ticket, extra: u32, frames_per_datagram: u32) -> Sent
+    pub(crate) fn of(ticket: &Ticket, extra: u32, frames_per_datagram: u32) -> Sent
         requires extra { extra ≤ MAX_EXTRA }
         requires some { 1 ≤ frames_per_datagram }
         ensures frames { result.frames ≡ generations ticket.now * (ticket.now.code.l + extra) + 1 }
@@ -139,7 +64,7 @@ fn data_frames(ticket: &Ticket, extra: u32) -> u64
 }
 
 /// Sends a file that is in memory, encoded by the encoder of the ticket's code.
-fn send_file<R: Rng, O: Outlet>(
+pub(crate) fn send_file<R: Rng, O: Outlet>(
     ticket: &Ticket,
     encoder: &Encoder,
     file: &[u8],

@@ -1,6 +1,6 @@
 //! `send` over sources, sinks and outlets in memory.
 use kk_outside::{Alloc, MemoryOutlet, MemorySink, MemorySource};
-use kk_run_send::run_send;
+use kk_run_send::{Sending, run_send};
 use kk_worked::{ONE_BYTE, ZEROS, frame, texts};
 use std::alloc::Global;
 use std::process::Abort;
@@ -85,6 +85,23 @@ fn one_byte(rt: HostRuntime) -> Result<(), Fail> {
     assert_eq!(rt; datagram(&outcome, 0).len(), 180);
     assert!(rt; datagram(&outcome, 0).starts_with(&frame(0, 0, 13)));
     assert_eq!(rt; datagram(&outcome, 1), frame(1, 0, 0).as_slice());
+    Ok(())
+}
+
+/// The opening has no source yet, and the run has no allocator.
+#[test]
+fn an_opening_and_its_run(rt: HostRuntime) -> Result<(), Fail> {
+    let alloc = rt.alloc();
+    let words = texts(alloc, WORDS)?;
+    let mut source = source_of(alloc, &unfailing(WORDS))?;
+    let mut report = MemorySink::new(alloc, 1000, 100, Vec::new(alloc))?;
+    let mut outlet = MemoryOutlet::new(alloc, 1000, Vec::new(alloc))?;
+    let status = match Sending::open(alloc, &words) {
+        Ok(sending) => Some(sending.run(&mut source, &mut report, &mut outlet)),
+        Err(_) => None,
+    };
+    assert_eq!(rt; status, Some(0));
+    assert_eq!(rt; outlet.sent(), 2);
     Ok(())
 }
 

@@ -6,8 +6,8 @@ ghost use Rattle.kk_sender.specs.SentFrames.{sent_datagrams};
 
 use crate::words::Words;
 use kk_code::Ticket;
-use kk_outside::{MemoryOutlet, MemorySource, Outlet, Source};
-use kk_sender::{SendFault, Sent, read_file, room_for_file, send_all};
+use kk_outside::{MemoryOutlet, MemorySource, Outlet, Room, Source};
+use kk_sender::{SendFault, Sender, Sent, read_file};
 use kk_worked::{ONE_BYTE, frame};
 use rand_core::Rng;
 use std::alloc::{AllocError, Global};
@@ -26,7 +26,10 @@ fn send_bytes<R: Rng, O: Outlet>(
         (sent_datagrams ticket.now bytes.items 0 32 (word_at (R.stream rng.old)))) }
 {
     let mut source = MemorySource::new(bytes, 4096, Vec::new(alloc));
-    match send_all(alloc, ticket, &mut source, rng, 0, 32, outlet) {
+    let Ok(mut sender) = Sender::new(alloc, ticket) else {
+        return None;
+    };
+    match sender.send_all(&mut source, rng, 0, 32, outlet) {
         Ok(sent) => Some(sent.datagrams),
         Err(_) => None,
     }
@@ -86,15 +89,8 @@ fn send_in(alloc: Global, setting: &Setting, extra: u32, pack: u32) -> Result<Ou
     );
     let mut outlet = MemoryOutlet::new(alloc, 1000, setting.outlet_fails.to_vec(alloc)?)?;
     let mut rng = Words::new(THREE_WORDS);
-    let answer = send_all(
-        alloc,
-        &ticket,
-        &mut source,
-        &mut rng,
-        extra,
-        pack,
-        &mut outlet,
-    );
+    let mut sender = Sender::new(alloc, &ticket)?;
+    let answer = sender.send_all(&mut source, &mut rng, extra, pack, &mut outlet);
     Ok(Outcome { answer, outlet })
 }
 
@@ -273,12 +269,10 @@ fn bytes_in_memory_are_sent(rt: HostRuntime) -> Result<(), Fail> {
 fn a_file_is_read_by_its_length(rt: HostRuntime) -> Result<(), Fail> {
     let alloc = rt.alloc();
     let ticket = Ticket::read("kk1:00000001:3:0000000000000003:3:1:3")?;
-    let mut room = room_for_file(alloc, &ticket)?;
-    assert_eq!(rt; room.len(), 4);
+    let mut room = Room::new(alloc, ticket.length() as usize + 1)?;
+    assert_eq!(rt; room.as_slice().len(), 4);
     let mut source = MemorySource::new([7u8, 8, 9].to_vec(alloc)?, 2, Vec::new(alloc));
-    if !room.is_empty() {
-        assert_eq!(rt; read_file(&mut source, &mut room), Ok(()));
-    }
+    assert_eq!(rt; read_file(&mut source, room.as_mut_slice()), Ok(()));
     assert_eq!(rt; room.as_slice(), [7, 8, 9, 0].as_slice());
     Ok(())
 }

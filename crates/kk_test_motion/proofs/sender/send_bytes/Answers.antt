@@ -1,16 +1,20 @@
 use Rattle.std.proofs.Common.{◌+◌, take, ap, ◌∙◌, arith}
 use Rattle.std.proofs.lemmas.List.{take_all}
+use Rattle.kk_code.specs.Ticket.{TicketFields}
 use Rattle.kk_outside.specs.Outlet.{append_datagrams}
 use Rattle.kk_outside.specs.SourceState.{SourceState}
 use Rattle.kk_outside.specs.Generator.{word_at}
 use Rattle.kk_sender.specs.SentFrames.{sent_datagrams}
 use Rattle.kk_test_motion.proofs.sender.send_bytes.Goals as goal
 
-pub returns-in-Ok : goal.returns-in-Ok
-returns-in-Ok g c =
-    let t = c.args.ticket.now in
+pub returns-in-Ok-send_all : goal.returns-in-Ok-send_all
+returns-in-Ok-send_all g c =
+    let t = c.in-Ok.sender in
     let bytes = c.args.bytes.items in
-    let taken = (c.in-Ok.ensures.remainder (λ e. cc e) (λ e. cc e)).taken in
+    let old = (g.O.Outlet.told c.args.outlet.now).sends in
+    let word = word_at (g.R.Rng.stream c.args.rng.now) in
+    let taken = (c.in-Ok-send_all.ensures.remainder (λ e. cc e)).taken in
     let left = ap (λ (s : SourceState). take (t.length + 1) s.left) c.new-source.ensures in
-    let all = take_all (t.length + 1) bytes (omega (arith, c.requires, c.args.bytes.ok.0)) in
-    c.in-Ok.ensures.sent ∙ ap (λ f. append_datagrams (g.O.Outlet.told c.args.outlet.now).sends (sent_datagrams t f 0 32 (word_at (g.R.Rng.stream c.args.rng.now)))) (taken ∙ left ∙ all)
+    let all = take_all (t.length + 1) bytes (omega (arith, ap (λ (u : TicketFields). u.length) c.in-Ok.ensures, c.requires, c.args.bytes.ok.0)) in
+    c.in-Ok-send_all.ensures.sent ∙ ap (λ f. append_datagrams old (sent_datagrams t f 0 32 word)) (taken ∙ left ∙ all)
+    ∙ ap (λ (u : TicketFields). append_datagrams old (sent_datagrams u bytes 0 32 word)) c.in-Ok.ensures
