@@ -1,4 +1,4 @@
-//! Receivers over gates in memory and over two gates that wait for each other, and a worker by itself.
+//! Receivers over gates in memory and over gates that wait for each other, and a worker by itself.
 ghost use Rattle.std.specs.Prelude.{◌≡◌, ◌<◌, ◌≤◌, None, IfOk, OnErr, length};
 ghost use Rattle.kk_outside.specs.Gate.{FitsGate};
 ghost use Rattle.kk_code.specs.Decoding.{answer};
@@ -60,6 +60,9 @@ const FIRST: Given = Given::Rows(&[(0, 13), (0, 17), (0, 34)]);
 const SECOND: Given = Given::Rows(&[(1, 8), (1, 16), (1, 32)]);
 
 const THIRD: Given = Given::Rows(&[(2, 8), (2, 16), (2, 32)]);
+
+/// What a gate gives that brings all.
+const WHOLE: &[Given] = &[FIRST, SECOND, THIRD, Given::End];
 
 /// The last two in one datagram.
 const OTHERS: Given = Given::Rows(&[(1, 8), (1, 16), (1, 32), (2, 8), (2, 16), (2, 32)]);
@@ -163,8 +166,9 @@ const CASES: &[Case] = &[
     },
 ];
 
-/// Two gates that wait for each other, each after so many answers. A receiver that asked one gate after the other would find
-/// the first alone, and one that inserted when its gates have ended would count other rows as late.
+/// Gates that wait for each other, each after so many answers. A receiver that asked one gate after the other, or some of them
+/// only after others have ended, would find the first alone, and one that inserted when its gates have ended would count other
+/// rows as late.
 const MEETINGS: &[(&[u32], Case)] = &[
     (
         &[0, 0],
@@ -199,6 +203,18 @@ const MEETINGS: &[(&[u32], Case)] = &[
             ranks: [(3, 3), (3, 3), (3, 3)],
             totals: Some([11, 9, 0, 2]),
             ends: &[(Ended::Over, 2, 7), (Ended::Over, 4, 4)],
+        },
+    ),
+    (
+        &[0; MAX_GATES],
+        Case {
+            name: "each of sixteen gates has a thread",
+            gates: &[WHOLE; MAX_GATES],
+            goal: None,
+            symbols: [Some(5), Some(0), Some(0)],
+            ranks: [(3, 3), (3, 3), (3, 3)],
+            totals: Some([144, 9, 135, 0]),
+            ends: &[(Ended::End, 4, 9); MAX_GATES],
         },
     ),
 ];
@@ -378,11 +394,12 @@ fn first_message_of_one_gate(rt: HostRuntime) -> Result<(), Fail> {
     Ok(())
 }
 
-/// A gate that doesn't tell what it has left. It gives some answers, and waits before the next until another such gate waits,
-/// too.
+/// A gate that doesn't tell what it has left. It gives some answers, and waits before the next until all such gates have begun
+/// to wait, too. It notes where that doesn't come.
 #[derive(Drop)]
 struct Meeting {
     begun: Arc<AtomicU64, Global>,
+    all: u64,
     answers: u32,
     met: bool,
     alone: bool,
@@ -398,16 +415,16 @@ impl Gate for Meeting {
         } else if !self.met {
             self.met = true;
             self.begun.fetch_add(1, Ordering::SeqCst);
-            self.alone = !meets(&self.begun);
+            self.alone = !meets(&self.begun, self.all);
         }
         self.events.next(buf)
     }
 }
 
-/// Whether both have begun before a million turns are over.
-fn meets(begun: &Arc<AtomicU64, Global>) -> bool {
+/// Whether all have begun before a million turns are over.
+fn meets(begun: &Arc<AtomicU64, Global>, all: u64) -> bool {
     for _ in 0..1_000_000u32 {
-        if begun.load(Ordering::SeqCst) >= 2 {
+        if begun.load(Ordering::SeqCst) >= all {
             return true;
         }
         thread::yield_now();
@@ -427,6 +444,7 @@ fn meetings_of(
     for (each, answers) in given.iter().zip(answers) {
         gates.push(Meeting {
             begun: Arc::try_clone(&begun)?,
+            all: given.len() as u64,
             answers: *answers,
             met: false,
             alone: false,
