@@ -38,32 +38,32 @@ after_trying w a changing call =
     let g = generation_of call in
     record { live = true; seen = set (actor w a).seen g (seen_after changing (sight w a g) (next_word w a call) call) }
 
-tried_actor : (w : World) (a : ℕ) (changing : Bool) (call : Call) → (actor w a).live ≡ true → actor (tried w a changing call) a ≡ after_trying w a changing call
+pub tried_actor : (w : World) (a : ℕ) (changing : Bool) (call : Call) → (actor w a).live ≡ true → actor (tried w a changing call) a ≡ after_trying w a changing call
 unfolding tried
 tried_actor w a changing call alive = get_or-set_same w.actors a (after_trying w a changing call) nobody (live_is_there w.actors a alive)
 
-tried_actor_other : (w : World) (a : ℕ) (changing : Bool) (call : Call) (b : ℕ) → b ≢ a → actor (tried w a changing call) b ≡ actor w b
+pub tried_actor_other : (w : World) (a : ℕ) (changing : Bool) (call : Call) (b : ℕ) → b ≢ a → actor (tried w a changing call) b ≡ actor w b
 unfolding tried
 tried_actor_other w a changing call b ne = get_or-set_other w.actors a b (after_trying w a changing call) nobody ne
 
-tried_length : (w : World) (a : ℕ) (changing : Bool) (call : Call) → length (tried w a changing call).words ≡ length w.words
+pub tried_length : (w : World) (a : ℕ) (changing : Bool) (call : Call) → length (tried w a changing call).words ≡ length w.words
 unfolding tried
 tried_length w a changing call =
     let g = generation_of call in
     length-set w.words g (set (words_of w g) (length (sight w a g).rows) (exchanged (next_word w a call) (stored changing call)))
 
-tried_width : (w : World) (a : ℕ) (changing : Bool) (call : Call) → (tried w a changing call).width ≡ w.width
+pub tried_width : (w : World) (a : ℕ) (changing : Bool) (call : Call) → (tried w a changing call).width ≡ w.width
 unfolding tried
 tried_width w a changing call = refl
 
-tried_words : (w : World) (a : ℕ) (changing : Bool) (call : Call) → generation_of call < length w.words
+pub tried_words : (w : World) (a : ℕ) (changing : Bool) (call : Call) → generation_of call < length w.words
     → words_of (tried w a changing call) (generation_of call) ≡ set (words_of w (generation_of call)) (length (sight w a (generation_of call)).rows) (exchanged (next_word w a call) (stored changing call))
 unfolding tried
 tried_words w a changing call inside =
     let g = generation_of call in
     get_or-set_same w.words g (set (words_of w g) (length (sight w a g).rows) (exchanged (next_word w a call) (stored changing call))) [] inside
 
-tried_words_other : (w : World) (a : ℕ) (changing : Bool) (call : Call) (k : ℕ) → k ≢ generation_of call → words_of (tried w a changing call) k ≡ words_of w k
+pub tried_words_other : (w : World) (a : ℕ) (changing : Bool) (call : Call) (k : ℕ) → k ≢ generation_of call → words_of (tried w a changing call) k ≡ words_of w k
 unfolding tried
 tried_words_other w a changing call k ne =
     let g = generation_of call in

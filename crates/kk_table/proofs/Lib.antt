@@ -8,3 +8,4 @@ pub mod Passes
 pub mod Calls
 pub mod LogReads
 pub mod Finishes
+pub mod Moves

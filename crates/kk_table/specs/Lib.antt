@@ -3,6 +3,7 @@ pub mod Rule
 pub mod Pass
 pub mod Answers
 pub mod Spares
+pub mod Moves
 pub mod Founder
 pub mod Logs
 pub mod Table

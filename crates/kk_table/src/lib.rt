@@ -5,6 +5,7 @@
 mod answers;
 mod founder;
 mod gen_table;
+pub mod laws;
 mod logs;
 mod pass;
 mod rule;
