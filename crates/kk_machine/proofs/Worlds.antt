@@ -306,14 +306,19 @@ unfolding AllMay run
 may_then w [] more may = may
 may_then w (m ∷ ms) more may = may_then (moved w m) ms more may.1
 
-AllMay-push : (w : World) (ms : List Move) (m : Move) → AllMay w ms → May (run w ms) m → AllMay w (ms ++ m ∷ [])
+pub AllMay-push : (w : World) (ms : List Move) (m : Move) → AllMay w ms → May (run w ms) m → AllMay w (ms ++ m ∷ [])
 unfolding AllMay run
 AllMay-push w [] m all may = (may, tt)
 AllMay-push w (x ∷ xs) m all may = (all.0, AllMay-push (moved w x) xs m all.1 may)
 
-run-push : (w : World) (ms : List Move) (m : Move) → run w (ms ++ m ∷ []) ≡ moved (run w ms) m
+pub run-push : (w : World) (ms : List Move) (m : Move) → run w (ms ++ m ∷ []) ≡ moved (run w ms) m
 unfolding run
 run-push w ms m = run-append w ms (m ∷ [])
+
+pub history-push : (w : World) (ms : List Move) (m : Move) → history w (ms ++ m ∷ []) ≡ history w ms ++ decided_by (run w ms) m
+unfolding history run
+history-push w [] m = append-nil (decided_by w m)
+history-push w (x ∷ xs) m = ap (λ (l : List Entry). decided_by w x ++ l) (history-push (moved w x) xs m) ∙ sym (append_assoc (decided_by w x) (history (moved w x) xs) (decided_by (run (moved w x) xs) m))
 
 -- one move more of a list
 pub run-take_more : (w : World) (ms : List Move) (i : ℕ) (d : Move) (now : World) → i < length ms → (now ≡ run w (take i ms)) × AllMay w (take i ms)

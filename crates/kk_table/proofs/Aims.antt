@@ -10,7 +10,7 @@ use Rattle.kk_table.specs.declared.view.View.{View}
 use Rattle.kk_table.specs.Places.{place_of}
 use Rattle.kk_table.specs.Rule.{sight, Tried, Holds}
 use Rattle.kk_table.specs.Pass.{IsAimed, known_in, IsPassing}
-use Rattle.kk_table.proofs.Tries.{look_allowed, change_allowed}
+use Rattle.kk_table.proofs.Allowed.{look_allowed, change_allowed}
 
 -- what the step tells
 abbrev Told : ℕ → Bool → Call → Me (Unit {0}) View → ℕ → Me (Unit {0}) View → Type 0

@@ -45,6 +45,7 @@ same_logs shape records f f' h same is = record {
   are_logs = λ g near. subst (IsLog shape.width) (same g near) (is.are_logs g near);
   seen = λ r has g near. subst (λ (x : Log). Sees x (sight r g)) (same g near) (is.seen r has g near);
   noted = is.noted;
+  by = is.by;
 }
 
 pub all_read : (shape : Shape) (records : List Known) (words : List ℕ) (logs : List SightView) → shape.width ≤ 63 → (end : IsEnd shape records words) → IsRead shape words shape.generations logs

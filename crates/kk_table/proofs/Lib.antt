@@ -1,6 +1,7 @@
 pub mod Places
 pub mod Owns
 pub mod Tries
+pub mod Allowed
 pub mod Seats
 pub mod Aims
 pub mod Storages

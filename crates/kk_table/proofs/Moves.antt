@@ -1,5 +1,5 @@
 -- The atomic steps of a table are moves of the pure machine.
-use Rattle.std.proofs.Common.{◌≡◌, ◌≢◌, ℕ, zero, suc, ◌+◌, ◌<◌, ◌≤◌, ⊎_elim, Bool, true, false, List, [], ◌∷◌, ◌++◌, length, get_or, set, replicate, sym, refl, ap, ◌∙◌, subst, true≢false, cond, arith, length-set, length-append, get_or-set_same, get_or-set_other}
+use Rattle.std.proofs.Common.{◌≡◌, ◌≢◌, ℕ, zero, suc, ◌+◌, ◌<◌, ◌≤◌, ⊎_elim, Bool, true, false, List, [], ◌∷◌, ◌++◌, length, get_or, set, replicate, sym, refl, ap, ◌∙◌, subst, true≢false, cond, arith, length-set, length-append, append-nil, get_or-set_same, get_or-set_other, ◌⊎◌, inl, inr}
 use Rattle.std.proofs.lemmas.List.{length-replicate, get_or-replicate, get_or_append_left}
 use mathlib.Core.Logic.{dite}
 use mathlib.Core.Option.{some, some-injective, some-ne-none}
@@ -10,24 +10,26 @@ use Rattle.kk_machine.specs.declared.log.Log.{Log}
 use Rattle.kk_machine.specs.declared.log.TheConstants.{CLOSED}
 use Rattle.kk_machine.specs.declared.call.Call.{Call}
 use Rattle.kk_machine.specs.declared.call.Call.TheVariants.{Insert, Freeze, Peek}
+use Rattle.kk_machine.specs.declared.call.Entry.{Entry}
+use Rattle.kk_machine.specs.declared.moves.Move.{Move}
 use Rattle.kk_machine.specs.declared.moves.Move.TheVariants.{Look}
 use Rattle.kk_machine.specs.Spaces.{unseen, generation_of, IsInWidth}
 use Rattle.kk_machine.specs.Steps.{exchanged, stored, decided, changes, sight_after}
 use Rattle.kk_machine.specs.History.{log_of, entries}
-use Rattle.kk_machine.specs.World.{World, Actor, new_world, nobody, newcomer as new_actor, actor, sight as sight_of, word, words_of, next_word, tried, MayTry}
+use Rattle.kk_machine.specs.World.{World, Actor, new_world, nobody, newcomer as new_actor, actor, sight as sight_of, word, words_of, next_word, tried, MayTry, run, history, AllMay}
 use Rattle.kk_machine.proofs.Logs.{closed_found}
 use Rattle.kk_machine.proofs.Turns.{exchanged_other}
-use Rattle.kk_machine.proofs.Worlds.{length_sight, get_or-replicate_same, tried_actor, tried_actor_other, tried_length, tried_width, tried_words, tried_words_other}
+use Rattle.kk_machine.proofs.Worlds.{length_sight, get_or-replicate_same, tried_actor, tried_actor_other, tried_length, tried_width, tried_words, tried_words_other, AllMay-push, run-push, history-push}
 use Rattle.kk_table.specs.declared.view.Shape.{Shape}
 use Rattle.kk_table.specs.declared.view.Known.{Known}
 use Rattle.kk_table.specs.declared.view.View.{View}
 use Rattle.kk_table.specs.declared.view.View.TheVariants.{Founder, Pass, Spent}
 use Rattle.kk_table.specs.Places.{place_of}
 use Rattle.kk_table.specs.Rule.{sight, known_after, newcomer, founder_first, IsAllowed}
-use Rattle.kk_table.specs.Moves.{IsActor, IsWorldOf, IsMove, exchange_of, move_of, next_place, BeginsAsWorld, StepsAreMoves, GiftsAreMoves, ReturnsAreMoves}
+use Rattle.kk_table.specs.Worlds.{IsActor, IsWorldOf, IsReached}
+use Rattle.kk_table.specs.Moves.{IsMove, exchange_of, move_of, next_place, BeginsAsWorld, StepsAreMoves, GiftsAreMoves, ReturnsAreMoves}
 use Rattle.kk_table.proofs.Places.{place_inside, places_apart}
 use Rattle.kk_table.proofs.Tries.{pass_fits}
-use Rattle.kk_table.proofs.Seats.{at_end}
 
 -- what the actor of a pass has seen
 seen_by : (shape : Shape) (words : List ℕ) (views : List View) (w : World) (n : ℕ) (k : Known) (g : ℕ) → IsWorldOf shape words views w → get_elem? views n ≡ some (Pass k)
@@ -193,6 +195,12 @@ steps_are_moves shape h given records words views w n k changing call is world a
     by true may = at_mark (sight k (generation_of call)).closed refl may
     by false may = looks shape words views w n k false call is.size fit.0 world at near may.0 fit.1 f found refl refl
 
+pub at_end : (l : List View) (a b : View) (j : ℕ) → get_elem? (l ++ a ∷ []) j ≡ some b → (get_elem? l j ≡ some b) ⊎ ((j ≡ length l) × (a ≡ b))
+at_end [] a b zero e = inr (refl, some-injective a b e)
+at_end [] a b (suc j) e = absurd (some-ne-none b (sym e))
+at_end (x ∷ xs) a b zero e = inl e
+at_end (x ∷ xs) a b (suc j) e = ⊎_elim (λ t. inl t) (λ (t : (j ≡ length xs) × (a ≡ b)). inr (ap suc t.0, t.1)) (at_end xs a b j e)
+
 actor_push : (actors : List Actor) (new : Actor) (n : ℕ) → n < length actors → get_or (actors ++ new ∷ []) n nobody ≡ get_or actors n nobody
 actor_push actors new n inside = get_or_append_left actors (new ∷ []) nobody n inside
 
@@ -279,3 +287,28 @@ begins_as_world shape =
       counted = refl;
       actors = λ n v e. let t = alone (founder_first shape) v n e in subst (λ (x : ℕ × View). IsActor x.1 (actor (new_world shape.generations shape.width) x.0)) (λ j. (sym t.0 j, t.1 j)) refl;
     }
+
+-- one move more
+pub reached_more : (shape : Shape) (h : List Entry) (words words' : List ℕ) (views views' : List View) (m : Move) (more : List Entry) (reached : IsReached shape h words views)
+    → IsMove shape words' views' (run (new_world shape.generations shape.width) reached.by.moves) m more → IsReached shape (h ++ more) words' views'
+reached_more shape h words words' views views' m more reached step =
+    let first = new_world shape.generations shape.width in
+    let ms = reached.by.moves in
+    record {
+      by = record {
+        moves = ms ++ m ∷ [];
+        may = AllMay-push first ms m reached.by.may step.may;
+        decided = history-push first ms m ∙ (λ t. reached.by.decided t ++ step.decides t);
+      };
+      world = subst (IsWorldOf shape words' views') (sym (run-push first ms m)) step.leads;
+    }
+
+-- the same for a move that decides nothing
+pub reached_silently : (shape : Shape) (h : List Entry) (words words' : List ℕ) (views views' : List View) (m : Move) (reached : IsReached shape h words views)
+    → IsMove shape words' views' (run (new_world shape.generations shape.width) reached.by.moves) m [] → IsReached shape h words' views'
+reached_silently shape h words words' views views' m reached step =
+    subst (λ (x : List Entry). IsReached shape x words' views') (append-nil h) (reached_more shape h words words' views views' m [] reached step)
+
+pub reached_first : (shape : Shape) → IsReached shape [] (replicate (place_of shape.width shape.generations 0) 0) (founder_first shape ∷ [])
+unfolding run history AllMay
+reached_first shape = record { by = record { moves = []; may = tt; decided = refl }; world = begins_as_world shape }

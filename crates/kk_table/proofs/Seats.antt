@@ -1,5 +1,5 @@
 -- The founder gives passes and takes them back; the beginning and the end.
-use Rattle.std.proofs.Common.{◌≡◌, ◌≢◌, ◌⊎◌, ℕ, zero, suc, ◌+◌, ◌<◌, ◌≤◌, Bool, true, false, List, [], ◌∷◌, ◌++◌, length, get_or, set, filter, cond, ◌==◌, replicate, Contains, sym, refl, ap, ◌∙◌, subst, inl, inr, ⊎_elim, true≢false, arith, length-set, length-append, eq-eqb, ne_eqb, append-nil}
+use Rattle.std.proofs.Common.{◌≡◌, ◌≢◌, ℕ, zero, suc, ◌+◌, ◌^◌, ◌<◌, ◌≤◌, Bool, true, false, List, [], ◌∷◌, ◌++◌, length, get_or, set, filter, cond, ◌==◌, replicate, Contains, sym, refl, ap, ◌∙◌, subst, inl, inr, ⊎_elim, true≢false, arith, length-set, length-append, eq-eqb, ne_eqb, append-nil}
 use Rattle.std.proofs.lemmas.List.{length-replicate, set-get_or}
 use Rattle.std.proofs.lemmas.List.Elements.{Contains-append_left, Contains-append_right, Contains-append_cases}
 use mathlib.Core.Logic.{dite}
@@ -23,7 +23,9 @@ use Rattle.kk_machine.specs.Inserts.{StandsBefore}
 use Rattle.kk_machine.specs.Sights.{Seen as SightView}
 use Rattle.kk_table.specs.Founder.{records_in, IsFounder}
 use Rattle.kk_machine.proofs.Worlds.{sees_nothing, get_or-replicate_same, one_zero, nothing_is_independent}
+use Rattle.kk_table.specs.Worlds.{IsReached}
 use Rattle.kk_table.proofs.Tries.{not_spent, inside, one_view}
+use Rattle.kk_table.proofs.Moves.{at_end, gifts_are_moves, returns_are_moves, reached_silently, reached_first}
 
 is_founder : View → Bool
 is_founder (Founder gens given records) = true
@@ -52,12 +54,6 @@ same_given e = ap given_of e
 same_records : {a b c d : ℕ} {r q : List Known} → Founder a b r ≡ Founder c d q → r ≡ q
 unfolding records_of
 same_records e = ap records_of e
-
-pub at_end : (l : List View) (a b : View) (j : ℕ) → get_elem? (l ++ a ∷ []) j ≡ some b → (get_elem? l j ≡ some b) ⊎ ((j ≡ length l) × (a ≡ b))
-at_end [] a b zero e = inr (refl, some-injective a b e)
-at_end [] a b (suc j) e = absurd (some-ne-none b (sym e))
-at_end (x ∷ xs) a b zero e = inl e
-at_end (x ∷ xs) a b (suc j) e = ⊎_elim (λ t. inl t) (λ (t : (j ≡ length xs) × (a ≡ b)). inr (ap suc t.0, t.1)) (at_end xs a b j e)
 
 count-append : (views : List View) (v : View) → count_spent (views ++ v ∷ []) ≡ count_spent views + spent_as_one v
 count-append [] v = omega arith
@@ -148,9 +144,9 @@ gives_kept shape h given records words views is =
       strangers = λ n far. is.strangers n (⊎_elim (λ z. inl z) (λ (l : given + 1 < n). inr (omega arith)) far);
     }
 
-pub gives : {S : Type 0} (shape : Shape) (id gens given : ℕ) (records : List Known)
+pub gives : {S : Type 0} (shape : Shape) (id gens given : ℕ) (records : List Known) → given + 1 < 2 ^ 32
     → Splits {S = S} (Holds shape) id (Founder gens given records) (Founder gens (given + 1) records) (Pass (newcomer gens given records))
-gives {S} shape id gens given records s (h, given', records', is) at =
+gives {S} shape id gens given records few s (h, given', records', is, reached) at =
     let first = founder_is_first shape h given' records' s.words s.views is id gens given records at in
     let same : Founder shape.generations given' records' ≡ Founder gens given records = one_view s.views 0 _ _ is.founder (subst (λ (x : ℕ). get_elem? s.views x ≡ some (Founder gens given records)) first at) in (
       h,
@@ -159,6 +155,10 @@ gives {S} shape id gens given records s (h, given', records', is) at =
       subst (λ (x : View). IsKept shape h (given' + 1) records' s.words (set s.views id (founder_after x) ++ given_by x ∷ [])) same
           (subst (λ (x : ℕ). IsKept shape h (given' + 1) records' s.words (set s.views x (Founder shape.generations (given' + 1) records') ++ Pass (newcomer shape.generations given' records') ∷ [])) (sym first)
           (gives_kept shape h given' records' s.words s.views is)),
+      subst (λ (x : View). IsReached shape h s.words (set s.views id (founder_after x) ++ given_by x ∷ [])) same
+          (subst (λ (x : ℕ). IsReached shape h s.words (set s.views x (Founder shape.generations (given' + 1) records') ++ Pass (newcomer shape.generations given' records') ∷ [])) (sym first)
+          (reached_silently shape h s.words _ s.views _ _ reached
+          (gifts_are_moves shape h given' records' s.words s.views _ is reached.world (subst (λ (x : ℕ). x + 1 < 2 ^ 32) (sym (same_given same)) few)))),
     )
 
 alone : (k r : Known) → Contains (k ∷ []) r → k ≡ r
@@ -209,7 +209,7 @@ takes_kept shape h given records words views is (suc n) k ne at =
 
 pub takes : {S : Type 0} (shape : Shape) (id gens given : ℕ) (records : List Known) (other : ℕ) (k : Known)
     → Joins {S = S} (Holds shape) id (Founder gens given records) other (Pass k) (Founder gens given (records ++ k ∷ [])) Spent
-takes {S} shape id gens given records other k s (h, given', records', is) at apart there =
+takes {S} shape id gens given records other k s (h, given', records', is, reached) at apart there =
     let first = founder_is_first shape h given' records' s.words s.views is id gens given records at in
     let same : Founder shape.generations given' records' ≡ Founder gens given records = one_view s.views 0 _ _ is.founder (subst (λ (x : ℕ). get_elem? s.views x ≡ some (Founder gens given records)) first at) in
     let at_other : get_elem? s.views other ≡ some (Pass k) = sym (set_else s.views id other (Founder gens given (records ++ k ∷ [])) apart) ∙ there in
@@ -220,6 +220,9 @@ takes {S} shape id gens given records other k s (h, given', records', is) at apa
       subst (λ (x : View). IsKept shape h given' (records' ++ k ∷ []) s.words (set (set s.views id (founder_with x (Pass k))) other Spent)) same
           (subst (λ (x : ℕ). IsKept shape h given' (records' ++ k ∷ []) s.words (set (set s.views x (Founder shape.generations given' (records' ++ k ∷ []))) other Spent)) (sym first)
           (takes_kept shape h given' records' s.words s.views is other k ne at_other)),
+      subst (λ (x : View). IsReached shape h s.words (set (set s.views id (founder_with x (Pass k))) other Spent)) same
+          (subst (λ (x : ℕ). IsReached shape h s.words (set (set s.views x (Founder shape.generations given' (records' ++ k ∷ []))) other Spent)) (sym first)
+          (reached_silently shape h s.words _ s.views _ _ reached (returns_are_moves shape h given' records' s.words s.views _ other k is reached.world at_other))),
     )
 
 pub starts : (S : Type 0) (shape : Shape) (words : List ℕ) → shape.width ≤ 63 → words ≡ replicate (place_of shape.width shape.generations 0) 0
@@ -243,6 +246,7 @@ starts S shape words fits zeros = (
     recorded = λ r (k, h, e). absurd (omega arith);
     strangers = λ n far. refl;
   },
+  subst (λ (x : List ℕ). IsReached shape [] x (founder_first shape ∷ [])) (sym zeros) (reached_first shape),
 )
 
 spent-le : (views : List View) → count_spent views ≤ length views
@@ -272,8 +276,8 @@ no_more (x ∷ xs) gens given records at =
     omega (arith, spent-le xs)
 
 ends_kept : (shape : Shape) (h : List Entry) (given : ℕ) (records : List Known) (words : List ℕ) (views : List View) → IsKept shape h given records words views
-    → given ≤ length records → IsHistoryOf shape records (λ g. log_of g h) h
-ends_kept shape h given records words views is all = record {
+    → IsReached shape h words views → given ≤ length records → IsHistoryOf shape records (λ g. log_of g h) h
+ends_kept shape h given records words views is reached all = record {
   legal = is.legal;
   nobody_else = λ n out. nobody n out;
   calls = λ r has. (is.recorded r has).1.calls;
@@ -281,6 +285,7 @@ ends_kept shape h given records words views is all = record {
   are_logs = is.logs;
   seen = λ r has. (is.recorded r has).1.seen;
   noted = λ r has m has_m. ((is.recorded r has).1.noted m has_m).1;
+  by = reached.by;
 }
   where
     nobody : (n : ℕ) → (Contains (numbers_of records) n → ⊥) → own n h ≡ []
@@ -298,20 +303,20 @@ pub record IsEnd (shape : Shape) (records : List Known) (words : List ℕ) : Typ
 
 pub ends : {S : Type 0} (shape : Shape) (id gens given : ℕ) (records : List Known) (words : List ℕ) (slots : List S)
     → Final (Seen (Holds shape) id (Founder gens given records)) words slots → given ≤ length records → IsEnd shape records words
-ends {S} shape id gens given records words slots (s, ((h, given', records', is), at), same_words, long, homes) all =
+ends {S} shape id gens given records words slots (s, ((h, given', records', is, reached), at), same_words, long, homes) all =
     let first = founder_is_first shape h given' records' s.words s.views is id gens given records at in
     let same : Founder shape.generations given' records' ≡ Founder gens given records = one_view s.views 0 _ _ is.founder (subst (λ (x : ℕ). get_elem? s.views x ≡ some (Founder gens given records)) first at) in
     let all' : given' ≤ length records' = subst (λ (x : ℕ × List Known). x.0 ≤ length x.1) (λ i. (sym (same_given same) i, sym (same_records same) i)) all in
     record {
       history = h;
-      is_history = subst (λ (x : List Known). IsHistoryOf shape x (λ g. log_of g h) h) (same_records same) (ends_kept shape h given' records' s.words s.views is all');
+      is_history = subst (λ (x : List Known). IsHistoryOf shape x (λ g. log_of g h) h) (same_records same) (ends_kept shape h given' records' s.words s.views is reached all');
       size = ap (λ (x : List ℕ). length x) (sym same_words) ∙ is.size;
       placed = λ g p near in_place. ap (λ (x : List ℕ). get_or x (place_of shape.width g p) 0) (sym same_words) ∙ is.placed g p near in_place;
     }
 
 pub counts : {S : Type 0} (shape : Shape) (slots id gens given : ℕ) (records : List Known)
     → Allows {S = S} (Holds shape) slots id (Founder gens given records, []) 0 (λ n. n) (λ found after. (after ≡ (Founder gens given records, [])) × (length records ≤ given))
-counts {S} shape slots id gens given records s (h, given', records', is) long at small =
+counts {S} shape slots id gens given records s (h, given', records', is, reached) long at small =
     let v = Founder gens given records in
     let first = founder_is_first shape h given' records' s.words s.views is id gens given records at in
     let same : Founder shape.generations given' records' ≡ v = one_view s.views 0 _ _ is.founder (subst (λ (x : ℕ). get_elem? s.views x ≡ some v) first at) in
@@ -325,6 +330,7 @@ counts {S} shape slots id gens given records s (h, given', records', is) long at
         given',
         records',
         subst (λ (x : List ℕ × List View). IsKept shape h given' records' x.0 x.1) (λ i. (sym (set-get_or s.words 0 0) i, sym (set_again s.views id v at) i)) is,
+        subst (λ (x : List ℕ × List View). IsReached shape h x.0 x.1) (λ i. (sym (set-get_or s.words 0 0) i, sym (set_again s.views id v at) i)) reached,
       ),
       (refl, few'),
     )
@@ -335,10 +341,10 @@ pub counts_as : (key : Shape) (slots id : ℕ) (me : Me (Unit {0}) View) (gens g
 counts_as key slots id me gens given records e =
     subst (λ (m : Me (Unit {0}) View). Allows (Holds key) slots id m 0 (λ n. n) (λ found after. (after ≡ m) × IsCounted m.0)) (sym e) (counts {S = Unit {0}} key slots id gens given records)
 
-pub gives_as : (key : Shape) (id : ℕ) (v : View) (gens given : ℕ) (records : List Known) → v ≡ Founder gens given records
+pub gives_as : (key : Shape) (id : ℕ) (v : View) (gens given : ℕ) (records : List Known) → given + 1 < 2 ^ 32 → v ≡ Founder gens given records
     → Splits {S = Unit {0}} (Holds key) id v (founder_after v) (given_by v)
-gives_as key id v gens given records e =
-    subst (λ (x : View). Splits {S = Unit {0}} (Holds key) id x (founder_after x) (given_by x)) (sym e) (gives {S = Unit {0}} key id gens given records)
+gives_as key id v gens given records few e =
+    subst (λ (x : View). Splits {S = Unit {0}} (Holds key) id x (founder_after x) (given_by x)) (sym e) (gives {S = Unit {0}} key id gens given records few)
 
 pub takes_as : (key : Shape) (id : ℕ) (v : View) (gens given : ℕ) (records : List Known) (other : ℕ) (w : View) (k : Known) → v ≡ Founder gens given records → w ≡ Pass k
     → Joins {S = Unit {0}} (Holds key) id v other w (founder_with v w) Spent

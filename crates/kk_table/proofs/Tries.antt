@@ -1,11 +1,9 @@
 -- A step of a pass keeps the rule.
-use Rattle.std.proofs.Common.{◌≡◌, ◌≢◌, ℕ, zero, suc, ◌+◌, ◌<◌, ◌^◌, Bool, true, false, List, [], ◌∷◌, ◌++◌, length, get_or, set, sym, refl, ap, ◌∙◌, subst, ⊎_elim, true≢false, arith, eqb, length-set, length-append, Option, get_or-set_same, get_or-set_other, eq-eqb, ne_eqb}
+use Rattle.std.proofs.Common.{◌≡◌, ◌≢◌, ℕ, zero, suc, ◌+◌, ◌<◌, ◌^◌, Bool, true, false, List, [], ◌∷◌, ◌++◌, length, get_or, set, sym, refl, ap, ◌∙◌, subst, ⊎_elim, true≢false, arith, length-set, length-append, Option, get_or-set_same, get_or-set_other}
 use mathlib.Core.Logic.{dite}
 use mathlib.Core.Option.{some, some-injective, some-ne-none}
 use native.Mathlib.Decide.{ℕ_discrete}
 use lib.ListN.{get_elem?}
-use prog.Atomic.{either}
-use Rattle.atomic_table.specs.Table.{keeps, Allows}
 use Rattle.atomic_table.proofs.Lists.{at_set, set_else}
 use Rattle.std.proofs.lemmas.List.{get_or_append_left}
 use Rattle.kk_rows.specs.Span.{IsIndependent}
@@ -14,9 +12,9 @@ use Rattle.kk_machine.specs.declared.log.Log.{Log}
 use Rattle.kk_machine.specs.declared.call.Call.{Call}
 use Rattle.kk_machine.specs.declared.call.Reply.{Reply}
 use Rattle.kk_machine.specs.declared.call.Entry.{Entry}
-use Rattle.kk_machine.specs.Spaces.{generation_of, IsInWidth}
+use Rattle.kk_machine.specs.Spaces.{generation_of}
 use Rattle.kk_machine.specs.declared.log.TheConstants.{CLOSED}
-use Rattle.kk_machine.specs.Steps.{word_at, IsLog, Sees, exchanged, stored, changes, decided}
+use Rattle.kk_machine.specs.Steps.{word_at, IsLog, Sees, exchanged, stored, decided}
 use Rattle.kk_machine.specs.History.{log_of, entries}
 use Rattle.kk_machine.specs.Spaces.{unseen}
 use Rattle.kk_machine.proofs.Turns.{seen_after}
@@ -28,7 +26,8 @@ use Rattle.kk_table.specs.declared.view.Known.{Known}
 use Rattle.kk_table.specs.declared.view.View.{View}
 use Rattle.kk_table.specs.declared.view.View.TheVariants.{Founder, Pass, Spent}
 use Rattle.kk_table.specs.Places.{place_of}
-use Rattle.kk_table.specs.Rule.{sight, known_after, IsAllowed, Tried, FitsKnown, FitsView, spent_as_one, count_spent, IsKept, Holds}
+use Rattle.kk_table.specs.Rule.{sight, known_after, IsAllowed, FitsKnown, FitsView, spent_as_one, count_spent, IsKept}
+use Rattle.kk_table.specs.Moves.{next_place}
 use Rattle.kk_table.proofs.Places.{place_inside, places_apart}
 use Rattle.kk_table.proofs.Owns.{own_more, own_same, stands_before_more}
 
@@ -91,10 +90,6 @@ view_fits shape h views views' by call d records m (Founder gens given' records'
 view_fits shape h views views' by call d records m (Pass r) ne spent sees fit = others_fit shape h views views' by call d m r ne spent sees fit
 view_fits shape h views views' by call d records m Spent ne spent sees fit = fit
 
--- the word that the step finds
-abbrev pub next_place : Shape → Known → Call → ℕ
-next_place shape k call = place_of shape.width (generation_of call) (length (sight k (generation_of call)).rows)
-
 abbrev pub history_after : Bool → Call → List Entry → Known → ℕ → List Entry
 history_after changing call h k f = h ++ entries k.number call (decided changing (sight k (generation_of call)) f call)
 
@@ -135,7 +130,7 @@ mine_fits shape h views views' k changing call f near fit spent step =
       noted = λ m has. let was = fit.noted m has in let now = spent m was.0 in (now.0, stands_before_more m k.number k.number h call d now.1 was.1);
     }
 
-try_keeps : (shape : Shape) (h : List Entry) (given : ℕ) (records : List Known) (words : List ℕ) (views : List View) → IsKept shape h given records words views
+pub try_keeps : (shape : Shape) (h : List Entry) (given : ℕ) (records : List Known) (words : List ℕ) (views : List View) → IsKept shape h given records words views
     → (k : Known) → get_elem? views k.number ≡ some (Pass k) → 0 < k.number → FitsKnown shape h views k.number k → (changing : Bool) (call : Call) → generation_of call < shape.generations
     → IsAllowed shape.width changing call (sight k (generation_of call)) → (f : ℕ) → get_or words (next_place shape k call) 0 ≡ f
     → IsKept shape (history_after changing call h k f) given records (set words (next_place shape k call) (exchanged f (stored changing call))) (set views k.number (Pass (known_after changing call k f)))
@@ -185,47 +180,3 @@ try_keeps shape h given records words views is k at pos fit changing call near c
       sight_is_log shape.width (log_of g h') (sight k' g) (step.logs g (is.logs g near)) (mine.seen g near),
       λ shut. sym found ∙ is.placed g p near room ∙ closed_found shape.width (log_of g h) s is.fits (is.logs g near) (fit.seen g near) shut,
     )
-
--- a step whose word becomes what an exchange of 0 makes of it
-tries : {S : Type 0} (shape : Shape) (slots id : ℕ) (k : Known) (changing : Bool) (call : Call) (i : ℕ) (turn : ℕ → ℕ)
-    → generation_of call < shape.generations → IsAllowed shape.width changing call (sight k (generation_of call))
-    → i ≡ next_place shape k call → ((n : ℕ) → turn n ≡ exchanged n (stored changing call))
-    → Allows {S = S} (Holds shape) slots id (Pass k, []) i turn (λ found after. Tried shape.width changing call (Pass k) found after.0 × (after.1 ≡ []))
-tries {S} shape slots id k changing call i turn near can place turns s (h, given, records, is) long at small =
-    let fit = pass_fits shape h given records s.words s.views is id k at in
-    let e : id ≡ k.number = sym fit.1.numbered in
-    let f = get_or s.words i 0 in
-    let at' : get_elem? s.views k.number ≡ some (Pass k) = subst (λ (x : ℕ). get_elem? s.views x ≡ some (Pass k)) e at in
-    let fit' : FitsKnown shape h s.views k.number k = subst (λ (x : ℕ). FitsKnown shape h s.views x k) e fit.1 in
-    let kept = try_keeps shape h given records s.words s.views is k at' (subst (λ (x : ℕ). 0 < x) e fit.0) fit' changing call near can f (ap (λ (x : ℕ). get_or s.words x 0) (sym place)) in (
-      Pass (known_after changing call k f),
-      keeps,
-      tt,
-      (
-        history_after changing call h k f,
-        given,
-        records,
-        subst (λ (x : ℕ × (ℕ × ℕ)). IsKept shape (history_after changing call h k f) given records (set s.words x.0 x.1.0) (set s.views x.1.1 (Pass (known_after changing call k f))))
-            (λ j. (sym place j, (sym (turns f) j, sym e j))) kept.0,
-      ),
-      ((refl, kept.1, kept.2), refl),
-    )
-
-exchanged_nothing : (n : ℕ) → n ≡ exchanged n 0
-exchanged_nothing zero = refl
-exchanged_nothing (suc n) = sym (rw (ne_eqb (suc n) 0 (λ e. omega arith)) refl)
-
-exchanged_either : (new n : ℕ) → either (eqb n 0) new n ≡ exchanged n new
-exchanged_either new n = dite (ℕ_discrete n 0) (λ e. rw (eq-eqb n 0 e) refl) (λ ne. rw (ne_eqb n 0 ne) refl)
-
-pub look_allowed : {S : Type 0} (shape : Shape) (slots id : ℕ) (k : Known) (call : Call) (i : ℕ) → generation_of call < shape.generations → IsInWidth shape.width call → i ≡ next_place shape k call
-    → Allows {S = S} (Holds shape) slots id (Pass k, []) i (λ n. n) (λ found after. Tried shape.width false call (Pass k) found after.0 × (after.1 ≡ []))
-look_allowed {S} shape slots id k call i near below place =
-    tries {S = S} shape slots id k false call i (λ n. n) near (below, λ e. absurd (true≢false (sym e))) place exchanged_nothing
-
-pub change_allowed : {S : Type 0} (shape : Shape) (slots id : ℕ) (k : Known) (call : Call) (i new : ℕ) → generation_of call < shape.generations
-    → IsInWidth shape.width call → changes (sight k (generation_of call)) call ≡ true → i ≡ next_place shape k call → new ≡ stored true call
-    → Allows {S = S} (Holds shape) slots id (Pass k, []) i (λ n. either (eqb n 0) new n) (λ found after. Tried shape.width true call (Pass k) found after.0 × (after.1 ≡ []))
-change_allowed {S} shape slots id k call i new near below change place is =
-    tries {S = S} shape slots id k true call i (λ n. either (eqb n 0) new n) near (below, λ e. change) place
-    (λ n. exchanged_either new n ∙ ap (exchanged n) is)

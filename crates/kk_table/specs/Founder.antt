@@ -1,5 +1,5 @@
 -- A founder as clauses see it.
-use Rattle.std.specs.Prelude.{◌≡◌, ℕ, ◌+◌, ◌-◌, ◌≤◌, List, [], ◌∷◌, ◌++◌, length, replicate, All}
+use Rattle.std.specs.Prelude.{◌≡◌, ℕ, ◌+◌, ◌-◌, ◌^◌, ◌<◌, ◌≤◌, List, [], ◌∷◌, ◌++◌, length, replicate, All}
 use Rattle.atomic_table.specs.Table.{Me}
 use Rattle.kk_machine.specs.Spaces.{unseen}
 use Rattle.kk_machine.specs.Sights.{Seen, logs_of, HaveWidth}
@@ -43,6 +43,10 @@ records_in Spent = []
 -- the seat is that of a founder
 abbrev pub IsFounding : Me (Unit {0}) View → Type 0
 IsFounding me = (generations given : ℕ) × (records : List Known) × (me ≡ (Founder generations given records, []))
+
+-- the same, and it may give one more pass
+abbrev pub MayGive : Me (Unit {0}) View → Type 0
+MayGive me = (generations given : ℕ) × (records : List Known) × (given + 1 < 2 ^ 32) × (me ≡ (Founder generations given records, []))
 
 -- storage for n generations in which nothing is seen
 pub record IsFresh (width n : ℕ) (seen : List Seen) : Type 0 where

@@ -1,4 +1,5 @@
 pub mod Places
+pub mod Worlds
 pub mod Rule
 pub mod Pass
 pub mod Answers

@@ -12,6 +12,7 @@ use Rattle.kk_table.specs.declared.view.Shape.{Shape}
 use Rattle.kk_table.specs.declared.view.Known.{Known}
 use Rattle.kk_table.specs.Places.{place_of}
 use Rattle.kk_table.specs.Rule.{sight, numbers_of}
+use Rattle.kk_table.specs.Worlds.{HasMoves}
 
 -- the records of the passes, in the order of taking back, and the logs by generation
 pub record LogsView : Type 0 where
@@ -25,7 +26,8 @@ log_at logs g = slice_index_or logs g unseen
 
 -- One legal history has the calls of the records, each record's in its order, and no others. Its logs are these, of
 -- independent rows below 2^width. A record had seen the beginning of each log, and the whole of it where it knew it
--- closed. All calls of the passes that a record's note names stand before its own.
+-- closed. All calls of the passes that a record's note names stand before its own. The steps that were made are moves of the
+-- pure machine, which decide these calls.
 pub record IsHistoryOf (shape : Shape) (records : List Known) (logs : ℕ → Log) (h : List Entry) : Type 0 where
   pub legal : Legal h
   pub nobody_else : (n : ℕ) → (Contains (numbers_of records) n → ⊥) → own n h ≡ []
@@ -34,6 +36,7 @@ pub record IsHistoryOf (shape : Shape) (records : List Known) (logs : ℕ → Lo
   pub are_logs : (g : ℕ) → g < shape.generations → IsLog shape.width (logs g)
   pub seen : (r : Known) → Contains records r → (g : ℕ) → g < shape.generations → Sees (logs g) (sight r g)
   pub noted : (r : Known) → Contains records r → (m : ℕ) → Contains r.note m → StandsBefore m r.number h
+  pub by : HasMoves shape h
 
 -- one legal history has the calls of the records, and its logs are these (`IsHistoryOf`)
 pub record IsLogs (shape : Shape) (records : List Known) (logs : List Log) : Type 0 where

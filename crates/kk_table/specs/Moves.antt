@@ -1,5 +1,5 @@
 -- The atomic steps of a table as moves of the pure machine.
-use Rattle.std.specs.Prelude.{◌≡◌, ℕ, ◌+◌, ◌^◌, ◌<◌, ◌≤◌, Bool, true, false, if◌then◌else◌, List, [], ◌∷◌, ◌++◌, length, replicate, slice_index, slice_set}
+use Rattle.std.specs.Prelude.{◌≡◌, ℕ, ◌+◌, ◌^◌, ◌<◌, Bool, if◌then◌else◌, List, [], ◌∷◌, ◌++◌, length, replicate, slice_index, slice_set}
 use mathlib.Core.Option.{some}
 use lib.ListN.{get_elem?}
 use Rattle.kk_machine.specs.declared.log.Log.{Log}
@@ -11,28 +11,14 @@ use Rattle.kk_machine.specs.declared.moves.Move.TheVariants.{Look, Put, Shut, Sp
 use Rattle.kk_machine.specs.Spaces.{generation_of}
 use Rattle.kk_machine.specs.Steps.{exchanged, stored, decided}
 use Rattle.kk_machine.specs.History.{entries}
-use Rattle.kk_machine.specs.World.{World, Actor, new_world, actor, word, words_of, moved, decided_by, May}
+use Rattle.kk_machine.specs.World.{World, new_world, moved, decided_by, May}
 use Rattle.kk_table.specs.declared.view.Shape.{Shape}
 use Rattle.kk_table.specs.declared.view.Known.{Known}
 use Rattle.kk_table.specs.declared.view.View.{View}
 use Rattle.kk_table.specs.declared.view.View.TheVariants.{Founder, Pass, Spent}
 use Rattle.kk_table.specs.Places.{place_of}
+use Rattle.kk_table.specs.Worlds.{IsWorldOf}
 use Rattle.kk_table.specs.Rule.{sight, known_after, newcomer, founder_first, IsAllowed, IsKept}
-
--- the actor has seen what the view says that its seat has seen
-abbrev pub IsActor : View → Actor → Type 0
-IsActor (Founder generations given records) a = a.live ≡ true
-IsActor (Pass k) a = (a.live ≡ true) × (a.seen ≡ k.seen)
-IsActor Spent a = a.live ≡ false
-
--- the words of a table are those of the world, and its seats are the actors, by their numbers
-pub record IsWorldOf (shape : Shape) (words : List ℕ) (views : List View) (w : World) : Type 0 where
-  pub width : w.width ≡ shape.width
-  pub generations : length w.words ≡ shape.generations
-  pub places : (g : ℕ) → g < shape.generations → length (words_of w g) ≡ shape.width + 1
-  pub placed : (g p : ℕ) → g < shape.generations → p ≤ shape.width → word w g p ≡ slice_index words (place_of shape.width g p)
-  pub counted : length w.actors ≡ length views
-  pub actors : (n : ℕ) (v : View) → get_elem? views n ≡ some v → IsActor v (actor w n)
 
 -- In the world w the move is allowed, decides the calls of these entries, and leads to the world of these words and views.
 pub record IsMove (shape : Shape) (words : List ℕ) (views : List View) (w : World) (m : Move) (more : List Entry) : Type 0 where

@@ -17,6 +17,7 @@ use Rattle.kk_table.specs.declared.view.Known.{Known}
 use Rattle.kk_table.specs.declared.view.View.{View}
 use Rattle.kk_table.specs.declared.view.View.TheVariants.{Founder, Pass, Spent}
 use Rattle.kk_table.specs.Places.{place_of}
+use Rattle.kk_table.specs.Worlds.{IsReached}
 
 -- what a pass has seen of generation g
 abbrev pub sight : Known → ℕ → Log
@@ -105,9 +106,9 @@ pub record IsKept (shape : Shape) (h : List Entry) (given : ℕ) (records : List
   pub recorded : (r : Known) → Contains records r → (get_elem? views r.number ≡ some Spent) × FitsKnown shape h views r.number r
   pub strangers : (n : ℕ) → (n ≡ 0) ⊎ (given < n) → own n h ≡ []
 
--- words and views are kept by the rule (`IsKept`), for some legal history
+-- words and views are kept by the rule (`IsKept`), for some legal history, and moves that decide it lead to them
 abbrev pub Holds : {S : Type 0} → Shape → State S View → Type 0
-Holds shape s = (h : List Entry) × (given : ℕ) × (records : List Known) × IsKept shape h given records s.words s.views
+Holds shape s = (h : List Entry) × (given : ℕ) × (records : List Known) × IsKept shape h given records s.words s.views × IsReached shape h s.words s.views
 
 -- the founder's view after it gave a pass
 abbrev pub founder_after : View → View

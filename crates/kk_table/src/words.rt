@@ -7,7 +7,7 @@ ghost use Rattle.kk_machine.specs.Steps.{stored};
 ghost use Rattle.kk_table.specs.Places.{place_of};
 ghost use Rattle.kk_table.specs.Rule.{Holds, Tried, founder_first, founder_after, given_by, founder_with, IsCounted};
 ghost use Rattle.kk_table.specs.Pass.{IsAimed, known_in, IsPassing};
-ghost use Rattle.kk_table.specs.Founder.{IsFounding};
+ghost use Rattle.kk_table.specs.Founder.{IsFounding, MayGive};
 
 use super::rule::{Aim, Change, Count, Given, Kept, Look, Taken};
 use super::{Shape, View};
@@ -101,7 +101,7 @@ impl Words {
     /// The founder gives a pass, whose seat this is.
     pub(crate) fn give(&self, founder: &mut Seat<(), View>) -> Seat<(), View>
         requires table { (founder.old.table_id ≡ self.now.table.shared.table_id) × (0 < self.now.table.shared.table_id.words) }
-        requires founder { IsFounding founder.old.me }
+        requires founder { MayGive founder.old.me }
         ensures founder { (founder.new.table_id ≡ founder.old.table_id) × (founder.new.me ≡ (founder_after founder.old.me.0, [])) }
         ensures pass { (result.table_id ≡ founder.old.table_id) × (result.me ≡ (given_by founder.old.me.0, [])) }
     {
