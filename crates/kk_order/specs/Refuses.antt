@@ -1,10 +1,11 @@
 -- Words that are refused: the status and the report of a run, by why the words give no order.
 use Rattle.std.specs.Prelude.{◌≡◌, ◌↔◌, ℕ, List, ◌++◌, Result, Err, codes}
+use Rattle.std.specs.Fmt.{decimal}
 use Rattle.kk_outside.specs.Change.{Change}
 use Rattle.kk_outside.specs.Sink.{SinkTold, WasGiven}
 use Rattle.kk_code.specs.declared.fault.TicketFault.{TicketFault}
+use Rattle.kk_code.specs.declared.fault.TicketFault.TheVariants.{Shape, Range as PartOutOfRange, NotIrreducible, TooMany}
 use Rattle.kk_report.specs.Command.{IsRefusalOfWords}
-use Rattle.kk_report.specs.Refusal.{ticket_cause}
 use Rattle.kk_report.specs.Report.{status_line}
 use Rattle.kk_order.specs.Order.{Cause, IsRefusedFor, Order, Words, Ticket, Seed, Range, Listen, Memory}
 
@@ -17,10 +18,17 @@ status_of (Range name) = 11
 status_of Listen = 11
 status_of Memory = 8
 
+-- why a text is no ticket
+abbrev pub ticket_text : TicketFault → List ℕ
+ticket_text (Shape at) = codes "ticket shape " ++ decimal at
+ticket_text (PartOutOfRange field) = codes "ticket range " ++ decimal field
+ticket_text NotIrreducible = codes "ticket not irreducible"
+ticket_text (TooMany generations) = codes "ticket too many generations " ++ decimal generations
+
 -- the cause, as its report tells it
 abbrev pub cause_text : Cause → List ℕ
 cause_text Words = codes "words"
-cause_text (Ticket fault) = ticket_cause fault
+cause_text (Ticket fault) = ticket_text fault
 cause_text Seed = codes "range seed"
 cause_text (Range name) = codes "range " ++ name
 cause_text Listen = codes "range listen"
@@ -29,6 +37,10 @@ cause_text Memory = codes "memory"
 -- the whole report
 abbrev pub refused_text : Cause → List ℕ
 refused_text cause = cause_text cause ++ codes "\n" ++ status_line (status_of cause)
+
+-- the run ended with the status of this cause, and its report is the cause's
+abbrev pub TellsCause : Cause → ℕ → Change SinkTold → Type 0
+TellsCause cause status report = (status ≡ status_of cause) × WasGiven (refused_text cause) report
 
 -- the seed, a number or how many addresses there are is out of its range
 abbrev pub IsRange : Cause → Type 0

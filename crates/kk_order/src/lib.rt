@@ -1,7 +1,6 @@
-//! What the words ask of a command: its ticket, its seed, its numbers and their ranges, and its addresses. For the commands alone.
+//! What the words ask of a command: its ticket, its seed, its numbers and their ranges. For the commands alone.
 #![tactic(auto)]
 
-mod addresses;
 mod bound;
 mod fault;
 mod order;
@@ -9,13 +8,12 @@ mod order_form;
 mod refuse;
 mod words;
 
-pub use addresses::{Addresses, places};
 pub use bound::{Bound, Limit, MAX_NAME_BYTES};
 pub use fault::OrderFault;
 pub use order::Order;
 pub use order_form::{OrderForm, TicketPlace};
 pub use refuse::refuse_words;
-pub use words::{DATAGRAMS_LIMIT, QUIETS_LIMIT, asked_of, seed_in};
+pub use words::{DATAGRAMS_LIMIT, QUIETS_LIMIT, seed_in};
 
 #[cfg(test)]
 mod tests;

@@ -1,5 +1,5 @@
 //! The addresses that lines name.
-use kk_order::places;
+use kk_words::places;
 use kk_worked::words_of;
 use std::alloc::Global;
 use std::test::*;

@@ -3,7 +3,6 @@
 
 mod program;
 
-pub use kk_order::{Addresses, places};
 pub use kk_outside::Alloc;
 pub use kk_run_pack::run_pack;
 pub use kk_run_plan::run_plan;
@@ -12,6 +11,6 @@ pub use kk_run_relay::run_relay;
 pub use kk_run_send::run_send;
 pub use kk_run_sim::run_sim;
 pub use kk_run_unpack::{laws, run_unpack};
-pub use kk_words::WordsFault;
+pub use kk_words::{Addresses, WordsFault, places};
 pub use kk_workers::MAX_GATES;
 pub use program::run;

@@ -5,21 +5,21 @@ ghost use Rattle.kk_outside.specs.Source.{bytes_read};
 ghost use Rattle.kk_workers.specs.Received.{changes};
 ghost use Rattle.kk_report.specs.Command.{texts, IsRefusalOfWords, RanThrough};
 ghost use Rattle.kk_run_recv.specs.Receiver.{received};
-ghost use Rattle.kk_report.specs.Refusal.{IsRefused};
 ghost use Rattle.kk_run_pack.specs.Pack.{Packs};
 ghost use Rattle.kk_run_plan.specs.Plan.{Plans, plan_form};
 ghost use Rattle.kk_run_relay.specs.Relay.{Relays};
 ghost use Rattle.kk_run_recv.specs.Recv.{Receives, limits_of, recv_form};
 ghost use Rattle.kk_run_send.specs.Send.{Sends};
 ghost use Rattle.kk_run_sim.specs.Sim.{Simulates};
-ghost use Rattle.kk_order.specs.Order.{Order, order_of};
+ghost use Rattle.kk_order.specs.Order.{Order, Words, order_of};
+ghost use Rattle.kk_order.specs.Refuses.{TellsCause};
 ghost use Rattle.kk_run_unpack.specs.Unpack.{Unpacks, UnpacksBy, max_pieces, unpacked};
 ghost use Rattle.kk_words.specs.Commands.{named_in};
 ghost use Rattle.kk_workers.specs.declared.running.TheConstants.{MAX_GATES};
 ghost use Rattle.kk_top.specs.Ends.{uses};
 
+use kk_order::{OrderFault, refuse_words};
 use kk_outside::{Gate, Outlet, Sink, Source};
-use kk_report::{Refusal, refuse};
 use kk_run_pack::run_pack;
 use kk_run_plan::run_plan;
 use kk_run_recv::run_recv;
@@ -52,7 +52,7 @@ pub fn run<R: Threads + Sync, S: Source, K: Sink, P: Sink, G: Gate + Send, O: Ou
     requires no_logs { logs.old.items ≡ [] }
 
     // No command is named.
-    ensures unnamed { named_in (texts words.now) ≡ None → IsRefused Refusal.Words result (change (P.told report.old) (P.told report.new)) }
+    ensures unnamed { named_in (texts words.now) ≡ None → TellsCause Words result (change (P.told report.old) (P.told report.new)) }
 
     // What each command promises.
     ensures plans { named_in (texts words.now) ≡ Some Command.Plan
@@ -110,7 +110,7 @@ pub fn run<R: Threads + Sync, S: Source, K: Sink, P: Sink, G: Gate + Send, O: Ou
     ensures none_left { IsRefusalOfWords result → logs.new.items ≡ [] }
 {
     let Some(command) = command_in(words) else {
-        return refuse(Refusal::Words, report);
+        return refuse_words(OrderFault::Words, report);
     };
     match command {
         Command::Plan => run_plan(alloc, words, source, file, report),

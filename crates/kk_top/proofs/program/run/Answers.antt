@@ -4,7 +4,7 @@ use Rattle.kk_words.specs.declared.command.Command.{Command}
 use Rattle.kk_words.specs.declared.command.Command.TheVariants.{Plan, Pack, Unpack, Recv}
 use Rattle.kk_words.specs.Commands.{named_in}
 use Rattle.kk_order.specs.Order.{Order, order_of}
-use Rattle.kk_order.proofs.Requests.{named_by}
+use Rattle.kk_top.proofs.Names.{named_by}
 use Rattle.kk_run_recv.specs.Recv.{recv_form}
 use Rattle.kk_run_unpack.specs.Unpack.{unpack_form}
 use Rattle.kk_top.proofs.program.run.Goals as goal

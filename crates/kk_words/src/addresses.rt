@@ -1,11 +1,10 @@
 //! The addresses that words name.
 ghost use Rattle.std.specs.Prelude.{◌≡◌, None, Some, IfOk, IsSome, drop, length, map, option_map, string_bytes};
 ghost use Rattle.kk_words.specs.Commands.{named_in};
+ghost use Rattle.kk_words.specs.Places.{listen_in, places_of, target_in};
 ghost use Rattle.kk_words.specs.Request.{HasTexts};
-ghost use Rattle.kk_report.specs.Command.{texts};
-ghost use Rattle.kk_order.specs.Places.{listen_in, places_of, target_in};
 
-use kk_words::{Asked, Command, WordsFault, read_words};
+use crate::{Asked, Command, WordsFault, read_words};
 use std::alloc::{AllocError, Global};
 use std::marker::Model;
 
@@ -18,7 +17,7 @@ pub struct Addresses {
 
 impl Model for Addresses {
     ghost use Rattle.std.specs.Prelude.{map, option_map, string_bytes};
-    ghost use Rattle.kk_order.specs.Places.{Places};
+    ghost use Rattle.kk_words.specs.Places.{Places};
 
     ghost Value = { Places };
 
@@ -51,9 +50,9 @@ impl Addresses {
 
 /// The addresses that the words name. `words` are those of the command line, without the program's name.
 pub fn places(alloc: Global, words: &[String]) -> Result<Addresses, WordsFault>
-    ensures named { IfOk result (λ places. places_of (texts words.now) ≡ Some places) }
-    ensures refused { result ≡ Err WordsFault.Words → places_of (texts words.now) ≡ None }
-    ensures memory { result ≡ Err WordsFault.Alloc → IsSome (named_in (texts words.now)) }
+    ensures named { IfOk result (λ places. places_of (map string_bytes words.now) ≡ Some places) }
+    ensures refused { result ≡ Err WordsFault.Words → places_of (map string_bytes words.now) ≡ None }
+    ensures memory { result ≡ Err WordsFault.Alloc → IsSome (named_in (map string_bytes words.now)) }
 {
     let asked = match read_words(alloc, words) {
         Ok(asked) => asked,

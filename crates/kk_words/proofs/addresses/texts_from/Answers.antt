@@ -1,8 +1,8 @@
 use Rattle.std.proofs.Common.{◌∙◌, ◌++◌, ◌∷◌, [], ap, map}
 use Rattle.std.specs.Prelude.{string_bytes}
 use Rattle.std.proofs.lemmas.List.{map-append}
-use Rattle.kk_order.proofs.Addressing.{one_more}
-use Rattle.kk_order.proofs.addresses.texts_from.Goals as goal
+use Rattle.kk_words.proofs.Addressing.{one_more}
+use Rattle.kk_words.proofs.addresses.texts_from.Goals as goal
 
 pub loop-i-preserved : goal.loop-i-preserved
 loop-i-preserved c =
