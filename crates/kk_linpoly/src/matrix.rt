@@ -4,7 +4,7 @@ ghost use Rattle.kk_linpoly.specs.LinPoly.{IsOver};
 ghost use Rattle.kk_linpoly.specs.Matrix.{digits_of, row_product};
 ghost use Rattle.kk_linpoly.specs.declared.matrix.TheConstants.{MAX_COLUMNS};
 
-use crate::comb::{BLOCK, digits_of, narrow_add, wide_add};
+use crate::comb::{BLOCK, add_columns, digits_of};
 use kk_tables::FieldTables;
 use std::marker::Model;
 
@@ -93,10 +93,6 @@ pub fn transform(field: &FieldTables, matrix: &[MatrixRow], vector: &[u64], imag
 {
     image[..matrix.len()].fill(0);
     for b in 0..vector.len().div_ceil(BLOCK) {
-        if field.m() <= 32 {
-            narrow_add(field, matrix, vector, BLOCK * b, image);
-        } else {
-            wide_add(field, matrix, vector, BLOCK * b, image);
-        }
+        add_columns(field, matrix, vector, BLOCK * b, image);
     }
 }

@@ -48,11 +48,11 @@ digit_next a b s sum e =
 
 -- ---- in words of 64 and of 128 bits
 
-pub narrow_entry : (a j t odd : ℕ) → a < 2 ^ 32 → j < 16 → t ≡ product a (j / 2) → odd ≡ j % 2 * a
+pub narrow_entry : (a j t odd : ℕ) → a < 2 ^ 60 → j < 16 → t ≡ product a (j / 2) → odd ≡ j % 2 * a
     → bit_xor (t * 2 % 18446744073709551616) odd ≡ product a j
 narrow_entry a j t odd ha hj et eo =
     let half : j / 2 < 2 ^ suc 2 = omega (arith, hj) in
-    let small : t < 2 ^ 34 = rw et (product-lt 32 a (j / 2) 2 ha half) in
+    let small : t < 2 ^ 62 = rw et (product-lt 60 a (j / 2) 2 ha half) in
     let fits : t * 2 < 18446744073709551616 = omega (arith, small) in
     rw (mod-eq_of_lt fits, et, eo, xor_comm (product a (j / 2) * 2) (j % 2 * a)) (sym (product-digit a j))
 

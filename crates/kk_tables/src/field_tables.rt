@@ -4,7 +4,7 @@ ghost use Rattle.kk_field.specs.Field.{residue, field_product, frobenius};
 ghost use Rattle.kk_field.specs.Laws.{IsFieldModulus, IsInverse};
 
 use crate::bytes::{ENTRIES, image_of, make_table};
-use crate::windows::{narrow_product, wide_product};
+use crate::windows::{middle_product, narrow_product, wide_product};
 use kk_field::{Field, Ring, Steps};
 use std::marker::Model;
 use std::sync::ledger::Ledger;
@@ -150,6 +150,19 @@ impl FieldTables {
         self.reduced(narrow_product(a, b, 2 * bytes), bytes)
     }
 
+    /// The product of two elements of at most 60 bits, by windows of words of 64 bits.
+    #[inline(never)]
+    fn middle(&self, a: u64, b: u64) -> u64
+        requires a_below { a < 2 ^ self.now.degree }
+        requires b_below { b < 2 ^ self.now.degree }
+        requires at_most_60 { self.now.degree ≤ 60 }
+        ensures value { result ≡ field_product self.now a b }
+        ensures below { result < 2 ^ self.now.degree }
+    {
+        let _ = &self.m;
+        self.reduce_wide(middle_product(a, b))
+    }
+
     /// The product of two elements, in words of 128 bits.
     #[inline(never)]
     fn wide(&self, a: u64, b: u64) -> u64
@@ -175,6 +188,8 @@ impl FieldTables {
             self.narrow(a, b, 1)
         } else if m <= 32 {
             self.narrow(a, b, 4)
+        } else if m <= 60 {
+            self.middle(a, b)
         } else {
             self.wide(a, b)
         }

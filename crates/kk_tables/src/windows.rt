@@ -3,9 +3,9 @@
 ghost use Rattle.std.specs.Prelude.{◌≡◌, ℕ, ◌*◌, ◌^◌, ◌<◌, ◌≤◌, slice_index};
 ghost use Rattle.kk_field.specs.Polynomial.{product};
 
-/// The products of `a` and the numbers below 16.
+/// The products of `a`, of at most 60 bits, and the numbers below 16.
 pub fn narrow_window(a: u64) -> [u64; 16]
-    requires { a < 2 ^ 32 }
+    requires { a < 2 ^ 60 }
     ensures { (k : ℕ) → k < 16 → slice_index result k ≡ product a k }
 {
     let mut table = [0; 16];
@@ -29,6 +29,24 @@ pub(crate) fn narrow_product(a: u64, b: u64, digits: u32) -> u64
     for i in 0..digits {
         let digit = (b >> (4 * (digits - 1 - i))) % 16;
         sum = (sum << 4) ^ table[digit as usize];
+    }
+    sum
+}
+
+/// The carry-less product of numbers of at most 60 bits, by the 15 digits of four bits of `b`, the highest first: a window
+/// has room in words of 64 bits, and only the sum takes one of 128.
+#[inline(always)]
+pub(crate) fn middle_product(a: u64, b: u64) -> u128
+    requires a_below { a < 2 ^ 60 }
+    requires b_below { b < 2 ^ 60 }
+    ensures { result ≡ product a b }
+{
+    let table = narrow_window(a);
+    let mut sum = 0;
+    for i in 0..15u32 {
+        let digit = (b >> (56 - 4 * i)) % 16;
+        let entry = u128::from(table[digit as usize]);
+        sum = (sum << 4) ^ entry;
     }
     sum
 }

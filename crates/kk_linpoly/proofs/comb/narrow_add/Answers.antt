@@ -1,4 +1,4 @@
-use Rattle.std.proofs.Common.{◌≡◌, [], get_or, arith, sym, ap, subst, ◌∙◌}
+use Rattle.std.proofs.Common.{◌≡◌, ◌*◌, [], get_or, arith, sym, ap, subst, ◌∙◌}
 use Rattle.std.proofs.lemmas.List.{get_or_read}
 use Rattle.kk_field.specs.Field.{residue}
 use Rattle.kk_linpoly.specs.LinPoly.{IsOver}
@@ -7,13 +7,14 @@ use Rattle.kk_linpoly.proofs.Combs.{IsOver-mono, carryless, carryless-fits, resi
 use Rattle.kk_linpoly.proofs.comb.narrow_add.Goals as goal
 
 pub narrow_windows-windows-requires-clause-small : goal.narrow_windows-windows-requires-clause-small
-narrow_windows-windows-requires-clause-small c = IsOver-mono c.args.field.now.degree 32 c.args.vector.now c.requires.narrow c.requires.vector_of_field
+narrow_windows-windows-requires-clause-small c =
+    IsOver-mono c.args.field.now.degree 60 c.args.vector.now (omega (arith, c.requires.narrow, c.requires.few)) c.requires.vector_of_field
 
 pub narrow_row_sum-requires-clause-small : goal.narrow_row_sum-requires-clause-small
 narrow_row_sum-requires-clause-small c =
     let row = c.index-matrix-j.result in
     let row_is : row ≡ get_or c.args.matrix.now c.loop-j.j [] = get_or_read c.args.matrix.now c.loop-j.j row c.loop-j-test.true c.index-matrix-j.is [] in
-    IsOver-mono c.args.field.now.degree 32 row c.requires.narrow
+    IsOver-mono c.args.field.now.degree (4 * c.args.places) row c.requires.narrow
     (subst (IsOver c.args.field.now.degree) (sym row_is) (c.requires.matrix_of_field c.loop-j.j [] c.loop-j-test.true))
 
 pub reduce_narrow-requires-clause-p_below : goal.reduce_narrow-requires-clause-p_below
@@ -23,8 +24,8 @@ reduce_narrow-requires-clause-p_below c =
     let row = c.index-matrix-j.result in
     let row_is : row ≡ get_or c.args.matrix.now c.loop-j.j [] = get_or_read c.args.matrix.now c.loop-j.j row c.loop-j-test.true c.index-matrix-j.is [] in
     let sum : c.narrow_row_sum.result ≡ carryless f vector c.args.first row =
-    c.narrow_row_sum.ensures vector c.narrow_windows-windows.ensures (IsOver-mono f.degree 32 vector c.requires.narrow c.requires.vector_of_field) in
-    rw sum (carryless-fits f vector c.args.first row 32 c.requires.narrow c.requires.vector_of_field
+    c.narrow_row_sum.ensures vector c.narrow_windows-windows.ensures (IsOver-mono f.degree 32 vector (omega (arith, c.requires.narrow, c.requires.few)) c.requires.vector_of_field) in
+    rw sum (carryless-fits f vector c.args.first row 32 (omega (arith, c.requires.narrow, c.requires.few)) c.requires.vector_of_field
     (subst (IsOver f.degree) (sym row_is) (c.requires.matrix_of_field c.loop-j.j [] c.loop-j-test.true)))
 
 pub loop-j-init : goal.loop-j-init
@@ -41,7 +42,7 @@ loop-j-preserved c =
     let reduced = c.reduce_narrow.ensures in
     let row_is : row ≡ get_or matrix j [] = get_or_read matrix j row c.loop-j-test.true c.index-matrix-j.is [] in
     let sum : c.narrow_row_sum.result ≡ carryless f vector first row =
-    c.narrow_row_sum.ensures vector c.narrow_windows-windows.ensures (IsOver-mono f.degree 32 vector c.requires.narrow c.requires.vector_of_field) in
+    c.narrow_row_sum.ensures vector c.narrow_windows-windows.ensures (IsOver-mono f.degree 32 vector (omega (arith, c.requires.narrow, c.requires.few)) c.requires.vector_of_field) in
     AreAdded-more f vector matrix first c.args.image.now c.loop-j.image j c.reduce_narrow.result (omega (arith, c.loop-j-test.true, c.requires.room))
     c.loop-j.invariant
     (reduced.value ∙ ap (residue f) sum ∙ residue-carryless f vector first row reduced.irreducible.modulus.low_below

@@ -8,4 +8,4 @@ use Rattle.kk_linpoly.proofs.comb.narrow_row_sum.Given as goal
 -- the sum of the products with the digits so far
 abbrev pub invariant-loop-d : goal.invariant-loop-d
 invariant-loop-d l = (vector : List ℕ) → AreWindows vector l.first l.windows → IsOver 32 vector
-    → l.sum ≡ from_place (λ i. slice_index vector (l.first + i)) (λ i. slice_index l.row (l.first + i)) BLOCK (32 - 4 * l.d)
+    → l.sum ≡ from_place (λ i. slice_index vector (l.first + i)) (λ i. slice_index l.row (l.first + i)) BLOCK (4 * (l.places - l.d))

@@ -6,7 +6,7 @@ use Rattle.kk_linpoly.proofs.Combs.{windows_more}
 use Rattle.kk_linpoly.proofs.comb.narrow_windows.Goals as goal
 
 pub narrow_window-requires : goal.narrow_window-requires
-narrow_window-requires c = rw c.entry.ensures (coefficient-lt 32 c.args.vector.now c.requires.small (c.args.first + c.loop-i.i))
+narrow_window-requires c = rw c.entry.ensures (coefficient-lt 60 c.args.vector.now c.requires.small (c.args.first + c.loop-i.i))
 
 pub loop-i-init : goal.loop-i-init
 loop-i-init c = record { long = refl; made = λ j k less few. absurd (omega (arith, less)) }

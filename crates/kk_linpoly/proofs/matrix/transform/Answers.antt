@@ -3,7 +3,6 @@ use Rattle.std.proofs.lemmas.List.{length-take-le}
 use Rattle.std.proofs.lemmas.Grind.{div_ceil_times}
 use Rattle.kk_linpoly.specs.declared.comb.TheConstants.{BLOCK}
 use Rattle.kk_linpoly.proofs.Combs.{AreImages-none, AreImages-more, row_product-all}
-use Rattle.kk_linpoly.proofs.matrix.transform.Goals.{then-m-le32, else-m-le32}
 use Rattle.kk_linpoly.proofs.matrix.transform.Goals as goal
 
 pub loop-b-init : goal.loop-b-init
@@ -21,21 +20,13 @@ loop-b-preserved c =
     let matrix = c.args.matrix.now in
     let b = c.loop-b.b in
     let before = c.loop-b.image in
-    AreImages-more f vector matrix c.args.image.now before c.if-m-le32.image b c.loop-b.invariant
-    (elim c.if-m-le32.branch [
-      | then-m-le32 w ↦ rw w.image-is (record {
-        long = w.narrow_add.ensures.len;
-        values = w.narrow_add.ensures.values;
-        below = w.narrow_add.ensures.below;
-        others = w.narrow_add.ensures.others;
-      })
-      | else-m-le32 w ↦ rw w.image-is (record {
-        long = w.wide_add.ensures.len;
-        values = w.wide_add.ensures.values;
-        below = w.wide_add.ensures.below;
-        others = w.wide_add.ensures.others;
-      })
-    ])
+    AreImages-more f vector matrix c.args.image.now before c.add_columns.new.image b c.loop-b.invariant
+    (record {
+      long = c.add_columns.ensures.len;
+      values = c.add_columns.ensures.values;
+      below = c.add_columns.ensures.below;
+      others = c.add_columns.ensures.others;
+    })
 
 pub returns-clause-values : goal.returns-clause-values
 returns-clause-values c j less =
