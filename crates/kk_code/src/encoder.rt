@@ -118,6 +118,8 @@ impl Encoder {
             self.advance_by(terms, 1)
         } else if m <= 32 {
             self.advance_by(terms, 4)
+        } else if m <= 40 {
+            self.advance_by(terms, 5)
         } else {
             self.advance_by(terms, 8)
         }
