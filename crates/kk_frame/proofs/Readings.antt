@@ -7,7 +7,7 @@ use Rattle.std.specs.Simd.{first_chunks}
 use Rattle.std.proofs.Math.Nat.{div-le_of_le-mul}
 use Rattle.std.proofs.lemmas.Bool.{false≢true, true≢false, cases_Bool, and_parts, leb-true}
 use Rattle.std.proofs.lemmas.List.Elements.{All-from_recursion}
-use Rattle.std.proofs.lemmas.List.{map-append, append-nil, drop_more, take-append-drop, length-map}
+use Rattle.std.proofs.lemmas.List.{map-append, append-nil, drop_more, take-append-drop, length-map, take_all}
 use Rattle.std.proofs.lemmas.Option.{get_or_from_slice_get}
 use Rattle.std.proofs.lemmas.List.Sums.{sum_by-append, count_by-le-length}
 use Rattle.kk_frame.specs.declared.datagram.TheConstants.{MAX_DATAGRAM_FRAMES}
@@ -19,7 +19,8 @@ use Rattle.kk_frame.specs.declared.received.Received.{Received}
 use Rattle.kk_frame.specs.Frame.{FrameValue, Vector, End, IsFrame, frame_read}
 use Rattle.kk_frame.specs.Datagram.{Reading, has_datagram_length, pieces, is_end, has_end, up_to_end, readings, data_frames}
 use Rattle.kk_frame.specs.Events.{breaks, refusals, refused_of}
-use Rattle.kk_frame.specs.Counting.{one_more, sum_of, IsAtMost, HasReadings}
+use Rattle.kk_frame.specs.Counting.{one_more, sum_of, IsAtMost, HasReadings, IsCounted}
+use Rattle.kk_frame.specs.declared.frame.TheConstants.{FRAME_BYTES}
 use Rattle.kk_frame.proofs.Texts.{fields_read}
 
 small_bit : (b : Bool) → cond b 0 1 ≤ MAX_DATAGRAM_FRAMES
@@ -358,3 +359,42 @@ IsAtMost-sum n m a b ha hb = grind arith
 pub received_at_most : (size : ℕ) (t : TicketFields) (bytes : List ℕ) (r : Received) → 0 < size → HasReadings (cond (has_datagram_length size bytes) 0 1) (readings size t bytes) r → IsAtMost MAX_DATAGRAM_FRAMES r.refused
 received_at_most size t bytes r some h =
     rw h.refused (refused_of-at_most (cond (has_datagram_length size bytes) 0 1) MAX_DATAGRAM_FRAMES (readings size t bytes) (small_bit (has_datagram_length size bytes)) (few_readings size t bytes some))
+
+-- ---- a datagram of one piece
+
+one_is_whole : (bytes : List ℕ) → length bytes ≡ FRAME_BYTES → has_datagram_length FRAME_BYTES bytes ≡ true
+one_is_whole bytes long = rw long refl
+
+one_to_end : (r : Reading) → up_to_end (r ∷ []) ≡ r ∷ []
+unfolding up_to_end
+one_to_end (Ok (Vector g row)) = refl
+one_to_end (Ok End) = refl
+one_to_end (Err fault) = refl
+
+pub readings-one : (t : TicketFields) (bytes : List ℕ) (r : Reading) → length bytes ≡ FRAME_BYTES → frame_read t bytes ≡ r → readings FRAME_BYTES t bytes ≡ r ∷ []
+unfolding readings
+readings-one t bytes r long read =
+    let whole : take FRAME_BYTES bytes ≡ bytes = take_all FRAME_BYTES bytes (omega (arith, long)) in
+    rw (one_is_whole bytes long, long)
+    (ap (λ p. up_to_end (frame_read t p ∷ [])) whole ∙ ap (λ x. up_to_end (x ∷ [])) read ∙ one_to_end r)
+
+-- what is counted of it
+pub IsCounted-one : (t : TicketFields) (bytes : List ℕ) (r : Reading) (frames : ℕ) (refused : Refused) (end : Bool) → length bytes ≡ FRAME_BYTES → frame_read t bytes ≡ r
+    → frames ≡ length (data_frames (r ∷ [])) → refused ≡ refused_of 0 (r ∷ []) → end ≡ has_end (r ∷ []) → IsCounted FRAME_BYTES t bytes frames refused end
+IsCounted-one t bytes r frames refused end long read frames_are refused_is end_is =
+    let whole = one_is_whole bytes long in
+    let one = readings-one t bytes r long read in
+    record {
+      frames_are = frames_are ∙ sym (ap (λ rs. length (data_frames rs)) one);
+      refused_is = refused_is ∙ sym (ap (λ rs. refused_of 0 rs) one) ∙ sym (ap (λ b. refused_of (cond b 0 1) (readings FRAME_BYTES t bytes)) whole);
+      end_is = end_is ∙ sym (ap has_end one);
+    }
+
+pub one_vector : (g row : ℕ) → 1 ≡ length (data_frames (Ok (Vector g row) ∷ []))
+one_vector g row = sym (ap length (data_frames-vector g row))
+
+pub one_end : 0 ≡ length (data_frames (Ok End ∷ []))
+one_end = sym (ap length data_frames-end)
+
+pub one_fault : (fault : FrameFault) → 0 ≡ length (data_frames (Err fault ∷ []))
+one_fault fault = sym (ap length (data_frames-fault fault))

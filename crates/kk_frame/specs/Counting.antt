@@ -1,11 +1,12 @@
 -- The counts of a gate before any event, and with one datagram more.
-use Rattle.std.specs.Prelude.{◌≡◌, ℕ, ◌+◌, ◌≤◌, None, List}
+use Rattle.std.specs.Prelude.{◌≡◌, ℕ, ◌+◌, ◌≤◌, Bool, if◌then◌else◌, None, List, length}
+use Rattle.kk_code.specs.Ticket.{TicketFields}
 use Rattle.kk_frame.specs.declared.fault.FrameFault.{FrameFault}
 use Rattle.kk_frame.specs.declared.fault.FrameFault.TheVariants.{Magic, Version, Kind, Session, Generation, Row, EndRow}
 use Rattle.kk_frame.specs.declared.gate_count.GateCount.{GateCount}
 use Rattle.kk_frame.specs.declared.gate_count.Refused.{Refused}
 use Rattle.kk_frame.specs.declared.received.Received.{Received}
-use Rattle.kk_frame.specs.Datagram.{Reading, has_end, data_frames}
+use Rattle.kk_frame.specs.Datagram.{Reading, has_datagram_length, has_end, readings, data_frames}
 use Rattle.kk_frame.specs.Events.{refused_of}
 
 -- nothing was refused
@@ -54,3 +55,9 @@ pub record HasReadings (badlength : ℕ) (rs : List Reading) (r : Received) : Ty
   pub batch : r.batch ≡ data_frames rs
   pub refused : r.refused ≡ refused_of badlength rs
   pub end : r.has_end ≡ has_end rs
+
+-- The datagram has so many data frames, this was refused of it, and whether END was read of it.
+pub record IsCounted (size : ℕ) (t : TicketFields) (bytes : List ℕ) (frames : ℕ) (refused : Refused) (end : Bool) : Type 0 where
+  pub frames_are : frames ≡ length (data_frames (readings size t bytes))
+  pub refused_is : refused ≡ refused_of (if has_datagram_length size bytes then 0 else 1) (readings size t bytes)
+  pub end_is : end ≡ has_end (readings size t bytes)

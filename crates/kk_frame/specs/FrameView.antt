@@ -1,5 +1,5 @@
 -- Frames of the program, seen as the definitions speak of them.
-use Rattle.std.specs.Prelude.{ℕ, Result, Ok, Err, List, map}
+use Rattle.std.specs.Prelude.{ℕ, Option, Some, None, Result, Ok, Err, List, [], ◌∷◌, map}
 use Rattle.kk_rows.specs.declared.rows.Row.{Row}
 use Rattle.kk_frame.specs.declared.fault.FrameFault.{FrameFault}
 use Rattle.kk_frame.specs.declared.frame.Frame.{Frame}
@@ -19,3 +19,8 @@ values (Err fault) = Err fault
 -- generations and rows of the program, seen as numbers
 abbrev pub pairs : List (ℕ × Row) → List (ℕ × ℕ)
 pairs frames = map (λ f. (f.0, f.1.0)) frames
+
+-- the one data frame of a piece, or none
+abbrev pub frame_of : Option (ℕ × Row) → List (ℕ × ℕ)
+frame_of None = []
+frame_of (Some f) = (f.0, f.1.0) ∷ []
