@@ -42,18 +42,23 @@ pub(crate) fn take_frames<S: Source>(
     Ok(intake.counts())
 }
 
-/// Takes the data frames of a datagram.
-fn take_datagram(intake: &mut Intake, bytes: &[u8], ticket: &Ticket, spaces: &mut [RowSpace])
+/// Takes the data frame of a piece, where it is one.
+fn take_datagram(
+    intake: &mut Intake,
+    bytes: &[u8; FRAME_BYTES],
+    ticket: &Ticket,
+    spaces: &mut [RowSpace],
+)
     requires running { is_running intake.old ≡ true }
     requires spaces { (events : List Event) × HasTaken ticket.now events intake.old spaces.old }
     ensures taken { (events : List Event) → HasTaken ticket.now events intake.old spaces.old → HasTaken ticket.now (events ++ Datagram bytes.now ∷ []) intake.new spaces.new }
     ensures limits { intake.new.limits ≡ intake.old.limits }
     ensures sooner { calls_left intake.new < calls_left intake.old }
 {
-    let batch = intake.datagram(bytes, ticket);
-    for (generation, row) in batch.as_slice() {
-        spaces[*generation as usize].insert(*row);
-    }
+    let Some((generation, row)) = intake.piece(bytes, ticket) else {
+        return;
+    };
+    spaces[generation as usize].insert(row);
 }
 
 /// The counts of a gate whose source has ended, where these bytes remain, fewer than those of a piece.
