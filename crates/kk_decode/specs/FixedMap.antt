@@ -1,6 +1,6 @@
 -- The values of a message's polynomial at the evaluation points, and the fixed map from k of them to the symbols and to
 -- the others.
-use Rattle.std.specs.Prelude.{◌≡◌, ◌≢◌, ℕ, suc, ◌-◌, ◌/◌, ◌%◌, ◌^◌, ◌<◌, ◌≤◌, List, [], length, slice_index, get_or}
+use Rattle.std.specs.Prelude.{◌≡◌, ◌≢◌, ℕ, Bool, Option, suc, ◌-◌, ◌/◌, ◌%◌, ◌^◌, ◌<◌, ◌≤◌, List, [], length, slice_index, get_or}
 use Rattle.kk_field.specs.Field.{Modulus, field_product, frobenius}
 use Rattle.kk_linpoly.specs.LinPoly.{IsOver, xor_sum}
 use Rattle.kk_code.specs.Codeword.{Parameters}
@@ -21,6 +21,12 @@ pub record IsFixedMap (p : Parameters) (rows : List (List ℕ)) : Type 0 where
   pub one : (c : ℕ) → c < p.k → column_value p.field rows p.k c (2 ^ c) ≡ 1
   pub zeros : (c i : ℕ) → c < p.k → i < p.k → c ≢ i → column_value p.field rows p.k c (2 ^ i) ≡ 0
   pub others : (c i : ℕ) → c < p.k → p.k ≤ i → i < p.l → column_value p.field rows p.k c (2 ^ i) ≡ element rows i c
+
+-- what is kept of a map: the parameters of the code that it was made for, whether its columns passed their test, and its rows
+pub record KeptMap : Type 0 where
+  pub code : Option Parameters
+  pub tested : Bool
+  pub rows : List (List ℕ)
 
 -- The rows of a space with one row at each evaluation point, from the highest x-part down: row l - 1 - i is (2^i, value i).
 pub record AreValues (p : Parameters) (rows values : List ℕ) : Type 0 where

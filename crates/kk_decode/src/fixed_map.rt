@@ -1,6 +1,6 @@
 //! The fixed map of a code: from the values of a message's polynomial at k evaluation points to its symbols, and to its
 //! values at the other points.
-ghost use Rattle.std.specs.Prelude.{◌≡◌, ◌≢◌, ℕ, ◌+◌, ◌-◌, ◌*◌, ◌^◌, ◌<◌, ◌≤◌, [], Some, IfSome, IsTrue, slice_index, get_or, length};
+ghost use Rattle.std.specs.Prelude.{◌≡◌, ◌≢◌, ℕ, ◌+◌, ◌-◌, ◌*◌, ◌^◌, ◌<◌, ◌≤◌, ◌↔◌, [], true, Some, None, IfSome, IsTrue, slice_index, get_or, length};
 ghost use Rattle.kk_field.specs.Field.{field_product};
 ghost use Rattle.kk_linpoly.specs.LinPoly.{IsOver, value, xor_sum};
 ghost use Rattle.kk_linpoly.specs.declared.matrix.TheConstants.{MAX_COLUMNS};
@@ -25,39 +25,50 @@ use std::sync::ledger::Ledger;
 #[derive(Drop)]
 pub(crate) struct FixedMap {
     code: Option<Code>,
+    tested: bool,
     rows: [MatrixRow; MAX_POINTS],
 }
 
-// Clauses see the parameters of the code.
+// Clauses see the parameters of the code, whether the columns passed their test, and the rows.
 impl Model for FixedMap {
-    ghost use Rattle.std.specs.Prelude.{Option, IfSome};
-    ghost use Rattle.kk_code.specs.Codeword.{Parameters};
-    ghost use Rattle.kk_decode.specs.FixedMap.{IsFixedMap};
+    ghost use Rattle.std.specs.Prelude.{◌≡◌, true, IfSome};
+    ghost use Rattle.kk_decode.specs.FixedMap.{IsFixedMap, KeptMap};
 
-    ghost Value = { Option Parameters };
+    ghost Value = { KeptMap };
 
-    ghost view = { λ map. map.code };
+    ghost view = { λ map. record { code = map.code; tested = map.tested; rows = map.rows } };
 
-    ghost invariant = { λ map. IfSome map.code (λ p. IsFixedMap p map.rows) };
+    ghost invariant = { λ map. map.tested ≡ true → IfSome map.code (λ p. IsFixedMap p map.rows) };
 }
 
 impl FixedMap {
     /// The map of no code.
-    pub(crate) fn none() -> FixedMap {
+    pub(crate) fn none() -> FixedMap
+        ensures { result.code ≡ None }
+    {
         FixedMap {
             code: None,
+            tested: false,
             rows: [MatrixRow::zero(); MAX_POINTS],
         }
     }
 
     /// Whether the map is of this code.
     fn is_of(&self, code: &Code) -> bool
-        ensures { IsTrue result → self.now ≡ Some code.now }
+        ensures { IsTrue result ↔ self.now.code ≡ Some code.now }
     {
         self.code == Some(*code)
     }
 
-    /// Makes the map of the code, in place, where it is that of another one.
+    /// Whether the map is of this code, and its columns passed their test.
+    fn serves(&self, code: &Code) -> bool
+        ensures { IsTrue result → (self.now.code ≡ Some code.now) × (self.now.tested ≡ true) }
+    {
+        self.is_of(code) && self.tested
+    }
+
+    /// Makes it the map of the code, in place, where it is that of another one. Where it is of the code already it stays as
+    /// it is, and no step is taken.
     pub(crate) fn renew<L: Ledger>(
         &mut self,
         code: &Code,
@@ -65,16 +76,17 @@ impl FixedMap {
         steps: &mut Steps<L>,
     )
         requires { field.now ≡ code.now.field }
+        ensures of_code { self.new.code ≡ Some code.now }
+        ensures kept { self.old.code ≡ Some code.now → self.new ≡ self.old }
+        ensures free { self.old.code ≡ Some code.now → steps.new ≡ steps.old }
         ensures cost { steps.new ≤ steps.old + (code.now.k + code.now.k * (4 * code.now.k + 2 * code.now.field.degree + 1)
             + code.now.l * (code.now.k * (code.now.k + 1))) }
     {
         if self.is_of(code) {
             return;
         }
-        self.code = None;
-        if fill(&mut self.rows, code, field, steps) {
-            self.code = Some(*code);
-        }
+        self.code = Some(*code);
+        self.tested = fill(&mut self.rows, code, field, steps);
     }
 
     /// The message whose polynomial has these values at the evaluation points, where the map is of this code and there is
@@ -90,7 +102,7 @@ impl FixedMap {
         ensures message { IfSome result (IsMessage code.now) }
         ensures values { IfSome result (λ u. (i : ℕ) → i < code.now.l → value code.now.field u (2 ^ i) ≡ slice_index values.now i) }
     {
-        if !self.is_of(code) {
+        if !self.serves(code) {
             return None;
         }
         let (l, k) = (code.l() as usize, code.k() as usize);
@@ -304,7 +316,7 @@ mod tests {
             let code = Ticket::read(ticket)?.code();
             let field = FieldTables::new(code.field());
             let map = map_of::<Brand>(&code, &field, Blank::new(1));
-            assert!(rt; map.is_of(&code), "{ticket}");
+            assert!(rt; map.serves(&code), "{ticket}");
         }
         Ok(())
     }

@@ -1,5 +1,5 @@
 //! The storage that a receiver keeps from one decoding to the next.
-ghost use Rattle.std.specs.Prelude.{◌≡◌, ◌+◌, ◌*◌, ◌≤◌};
+ghost use Rattle.std.specs.Prelude.{◌≡◌, ◌+◌, ◌*◌, ◌≤◌, Some};
 
 use crate::fixed_map::FixedMap;
 use kk_code::Code;
@@ -25,9 +25,13 @@ impl Scratch {
         }
     }
 
-    /// Makes the tables of the code's field and the code's map, in place, where they are those of another one.
+    /// Makes the tables of the code's field and the code's map, in place, where they are those of another one. What is of the
+    /// code already stays as it is.
     pub(crate) fn renew<L: Ledger>(&mut self, code: &Code, steps: &mut Steps<L>)
         ensures tables { self.new.tables ≡ code.now.field }
+        ensures map { self.new.map.code ≡ Some code.now }
+        ensures kept { self.old.map.code ≡ Some code.now → self.new.map ≡ self.old.map }
+        ensures free { self.old.map.code ≡ Some code.now → steps.new ≡ steps.old }
         ensures cost { steps.new ≤ steps.old + (code.now.k + code.now.k * (4 * code.now.k + 2 * code.now.field.degree + 1)
             + code.now.l * (code.now.k * (code.now.k + 1))) }
     {

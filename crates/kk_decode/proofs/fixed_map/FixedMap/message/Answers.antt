@@ -6,7 +6,7 @@ use Rattle.std.proofs.lemmas.List.Elements.{All-take, All-from_get_or}
 use Rattle.kk_linpoly.specs.LinPoly.{IsOver}
 use Rattle.kk_linpoly.specs.Matrix.{row_product}
 use Rattle.kk_code.specs.Codeword.{Parameters, IsInRange}
-use Rattle.kk_decode.specs.FixedMap.{IsFixedMap}
+use Rattle.kk_decode.specs.FixedMap.{IsFixedMap, KeptMap}
 use Rattle.kk_decode.proofs.Columns.{value_at_first, value_at_other}
 use Rattle.kk_decode.proofs.fixed_map.FixedMap.message.Goals as goal
 
@@ -19,7 +19,8 @@ transform-requires-clause-matrix_of_field c =
     let p = c.args.code.now in
     let rows = c.self.inside.rows in
     let l = c.l.result in
-    let fixed = map_of p c.self.inside.code rows (c.self.view_is ∙ c.is_of.ensures c.if-not-is_of.false) c.self.invariant in
+    let fixed = map_of p c.self.inside.code rows (ap (λ (m : KeptMap). m.code) c.self.view_is ∙ (c.serves.ensures c.if-not-serves.false).0)
+    (c.self.invariant (ap (λ (m : KeptMap). m.tested) c.self.view_is ∙ (c.serves.ensures c.if-not-serves.false).1)) in
     All-from_get_or (IsOver c.args.field.now.degree) (take l rows) [] (λ j within.
     let less : j < l = omega (arith, within, length-take l rows) in
     subst (λ f. IsOver f.degree (get_or (take l rows) j [])) (sym c.requires.field)
@@ -33,7 +34,8 @@ returns-clause-message c =
     let range : IsInRange p = c.k.ensures.in_range in
     let k_is : k ≡ p.k = c.k.ensures.symbols in
     let lines : p.l ≤ length (take c.l.result c.self.inside.rows) =
-    let fixed = map_of p c.self.inside.code c.self.inside.rows (c.self.view_is ∙ c.is_of.ensures c.if-not-is_of.false) c.self.invariant in
+    let fixed = map_of p c.self.inside.code c.self.inside.rows (ap (λ (m : KeptMap). m.code) c.self.view_is ∙ (c.serves.ensures c.if-not-serves.false).0)
+    (c.self.invariant (ap (λ (m : KeptMap). m.tested) c.self.view_is ∙ (c.serves.ensures c.if-not-serves.false).1)) in
     omega (arith, length-take-le c.l.result c.self.inside.rows (omega (arith, fixed.count, c.l.ensures.points)), c.l.ensures.points) in
     let long : length (take k image) ≡ k = length-take-le k image (omega (arith, c.transform.ensures.len, k_is, range.k_high, range.l_high, range.m_high)) in
     record {
@@ -56,7 +58,8 @@ returns-clause-values c i inside =
     let image = c.transform.new.image in
     let range : IsInRange p = c.k.ensures.in_range in
     let w = take k values in
-    let fixed = map_of p c.self.inside.code rows (c.self.view_is ∙ c.is_of.ensures c.if-not-is_of.false) c.self.invariant in
+    let fixed = map_of p c.self.inside.code rows (ap (λ (m : KeptMap). m.code) c.self.view_is ∙ (c.serves.ensures c.if-not-serves.false).0)
+    (c.self.invariant (ap (λ (m : KeptMap). m.tested) c.self.view_is ∙ (c.serves.ensures c.if-not-serves.false).1)) in
     let k_is : k ≡ p.k = c.k.ensures.symbols in
     let l_is : l ≡ p.l = c.l.ensures.points in
     let count : length w ≡ p.k = length-take-le k values (omega (arith, c.told-values, k_is, range.k_high, range.l_high, range.m_high)) ∙ k_is in
