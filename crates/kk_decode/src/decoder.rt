@@ -17,8 +17,7 @@ use kk_field::Steps;
 use kk_interp::Interp;
 use kk_rows::{Row, RowSpace};
 use kk_tables::FieldTables;
-use std::marker::Brand;
-use std::sync::ledger::{Blank, Ledger};
+use std::sync::ledger::Ledger;
 
 /// The message whose codeword lies within distance l - k of the span of the rows, or `None` where there is none.
 pub fn decode<L: Ledger>(
@@ -63,35 +62,6 @@ pub fn decode_space<L: Ledger>(
         return Some(u);
     }
     interpolated(code, tables, space, steps)
-}
-
-/// [`decode_space`] for who counts no steps: they count for nobody.
-pub fn decode_uncounted(code: &Code, space: &RowSpace, scratch: &mut Scratch) -> Option<Message>
-    requires width { space.now.width ≡ width code.now }
-    ensures some { IfSome result (Decodes code.now space.now.rows) }
-    ensures none { IfNone result ((u : List ℕ) → Decodes code.now space.now.rows u → ⊥) }
-    ensures answer { result ≡ answer code.now space.now.rows }
-{
-    decode_named::<Brand>(code, space, scratch, Blank::new(1))
-}
-
-/// The same with a name for the step counter.
-fn decode_named<L: Ledger>(
-    code: &Code,
-    space: &RowSpace,
-    scratch: &mut Scratch,
-    blank: Blank,
-) -> Option<Message>
-    requires name { blank.name ≡ L.name }
-    requires parts { blank.parts ≡ L.parts }
-    requires one_or_more { 0 < blank.parts }
-    requires width { space.now.width ≡ width code.now }
-    ensures some { IfSome result (Decodes code.now space.now.rows) }
-    ensures none { IfNone result ((u : List ℕ) → Decodes code.now space.now.rows u → ⊥) }
-    ensures answer { result ≡ answer code.now space.now.rows }
-{
-    let mut steps = Steps::<L>::new(blank);
-    decode_space(code, space, scratch, &mut steps)
 }
 
 /// [`decode_space`] for a space of k to 2·l - k dimensions, by interpolation.

@@ -22,6 +22,6 @@ mod spaces;
 mod uninjected;
 mod weights;
 
-pub use decoder::{decode, decode_space, decode_uncounted};
+pub use decoder::{decode, decode_space};
 pub use loss::{Loss, channel_loss};
 pub use scratch::Scratch;

@@ -14,16 +14,14 @@ ghost use Rattle.kk_run_unpack.specs.Spaces.{AreReceived, AreSpanned};
 
 use crate::receive::take_frames;
 use kk_code::{Code, Message, Ticket};
-use kk_decode::{Scratch, decode_space};
-use kk_field::Steps;
+use kk_decode::Scratch;
 use kk_frame::GateCount;
 use kk_outcome::deliver;
 use kk_outside::{Alloc, Failed, Sink, Source};
 use kk_report::Status;
 use kk_rows::RowSpace;
+use kk_workers::decode_uncounted;
 use std::alloc::Global;
-use std::marker::Brand;
-use std::sync::ledger::{Blank, Ledger};
 
 /// An unpacking under a ticket: a row space for each generation, room for an answer each, and the bytes of the file.
 #[derive(Drop)]
@@ -86,12 +84,7 @@ impl Unpacking {
         ensures spaces { self.new.spaces ≡ self.old.spaces }
         ensures file { self.new.file ≡ self.old.file }
     {
-        answer_each::<Brand>(
-            &ticket.code(),
-            &self.spaces,
-            &mut self.answers,
-            Blank::new(1),
-        );
+        answer_each(&ticket.code(), &self.spaces, &mut self.answers);
     }
 
     /// Writes the file, where each generation has an answer.
@@ -109,16 +102,8 @@ impl Unpacking {
     }
 }
 
-/// The answer of each space, with one storage for all and a step counter of its own.
-fn answer_each<L: Ledger>(
-    code: &Code,
-    spaces: &[RowSpace],
-    answers: &mut Vec<Option<Message>>,
-    blank: Blank,
-)
-    requires name { blank.name ≡ L.name }
-    requires parts { blank.parts ≡ L.parts }
-    requires some { 0 < blank.parts }
+/// The answer of each space, with one storage for all.
+fn answer_each(code: &Code, spaces: &[RowSpace], answers: &mut Vec<Option<Message>>)
     requires wide { All (λ space. space.width ≡ width code.now) spaces.now }
     requires empty { answers.old.items ≡ [] }
     requires room { length spaces.now ≤ vec_capacity answers.old }
@@ -126,8 +111,7 @@ fn answer_each<L: Ledger>(
     ensures messages { All (λ a. IfSome a (IsMessage code.now)) answers.new.items }
 {
     let mut scratch = Scratch::new();
-    let mut steps = Steps::<L>::new(blank);
     for space in spaces {
-        answers.push_reserved(decode_space(code, space, &mut scratch, &mut steps));
+        answers.push_reserved(decode_uncounted(code, space, &mut scratch));
     }
 }

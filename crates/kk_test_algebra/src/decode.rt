@@ -5,7 +5,7 @@ ghost use Rattle.kk_code.specs.Codeword.{IsMessage, width};
 ghost use Rattle.kk_code.specs.Decoding.{answer};
 
 use kk_code::{Code, Message, Ticket, check_modulus};
-use kk_decode::{Loss, Scratch, channel_loss, decode, decode_space, decode_uncounted};
+use kk_decode::{Loss, Scratch, channel_loss, decode, decode_space};
 use kk_field::Steps;
 use kk_rows::{Alloc, Row, RowSpace};
 use std::alloc::Global;
@@ -45,7 +45,7 @@ fn are_rows_of(code: &Code, rows: &[Row]) -> bool
 }
 
 // The message with these symbols, where they are one of the code.
-fn message(code: &Code, symbols: &[u64]) -> Option<Message>
+pub(crate) fn message(code: &Code, symbols: &[u64]) -> Option<Message>
     ensures { IfSome result (IsMessage code.now) }
 {
     let top = code.m() - 1;
@@ -61,7 +61,7 @@ fn message(code: &Code, symbols: &[u64]) -> Option<Message>
 }
 
 // Whether the rows decode to the message with these symbols, or to none where there are no symbols.
-fn decodes_to<L: Ledger>(
+pub(crate) fn decodes_to<L: Ledger>(
     code: &Code,
     rows: &[Row],
     symbols: &[u64],
@@ -243,26 +243,6 @@ fn the_widest_code_decodes_on_its_radius_alone(rt: HostRuntime) -> Result<(), Fa
     let u = widest_answer::<Brand>(&on_radius, Blank::new(1)).ok_or("no answer")?;
     assert_eq!(rt; u.symbols(), [1].as_slice());
     assert!(rt; widest_answer::<Brand>(&far, Blank::new(1)).is_none());
-    Ok(())
-}
-
-// What the span of three rows decodes to, for a caller that counts no steps.
-fn uncounted(code: &Code, rows: [Row; 3]) -> Option<Message> {
-    if !are_rows_of(code, &rows) {
-        return None;
-    }
-    let mut space = RowSpace::new(code.width());
-    let _ = space.insert(rows[0]);
-    let _ = space.insert(rows[1]);
-    let _ = space.insert(rows[2]);
-    decode_uncounted(code, &space, &mut Scratch::new())
-}
-
-#[test]
-fn a_space_decodes_without_a_step_counter(rt: HostRuntime) -> Result<(), Fail> {
-    let code = Ticket::read("kk1:00000001:3:0000000000000003:3:1:1")?.code();
-    let u = uncounted(&code, [Row(13), Row(17), Row(34)]).ok_or("no answer")?;
-    assert_eq!(rt; u.symbols(), [5].as_slice());
     Ok(())
 }
 

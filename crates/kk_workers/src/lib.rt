@@ -14,6 +14,7 @@ mod totals;
 mod worker;
 mod working;
 
+pub use decoding::decode_uncounted;
 pub use plan::Plan;
 pub use received::Received;
 pub use receiving::receive;

@@ -22,13 +22,13 @@ answers_more p spaces i space found now a within is so_far answered pushed =
     ∙ sym (ap (map f) (take_more spaces i space within))
 
 pub loop-space-preserved : goal.loop-space-preserved
-loop-space-preserved g c =
+loop-space-preserved c =
     let loop = c.loop-space in
-    let decoded = c.decode_space.ensures in
+    let decoded = c.decode_uncounted.ensures in
     let pushed = c.push_reserved.ensures in
     record {
-      answers = answers_more c.args.code.now c.args.spaces.now loop.space-index c.space-item.result loop.answers.items c.push_reserved.new.self.items c.decode_space.result (omega arith) c.space-item.is loop.invariant.answers decoded.answer pushed.items;
-      messages = rw pushed.items (All-push (λ (a : Option (List ℕ)). IfSome a (IsMessage c.args.code.now)) loop.answers.items c.decode_space.result loop.invariant.messages (is_message c.args.code.now c.space-item.result.rows c.decode_space.result decoded.some));
+      answers = answers_more c.args.code.now c.args.spaces.now loop.space-index c.space-item.result loop.answers.items c.push_reserved.new.self.items c.decode_uncounted.result (omega arith) c.space-item.is loop.invariant.answers decoded.answer pushed.items;
+      messages = rw pushed.items (All-push (λ (a : Option (List ℕ)). IfSome a (IsMessage c.args.code.now)) loop.answers.items c.decode_uncounted.result loop.invariant.messages (is_message c.args.code.now c.space-item.result.rows c.decode_uncounted.result decoded.some));
       count = omega (arith, pushed.len, loop.invariant.count);
       room = pushed.capacity ∙ loop.invariant.room;
     }

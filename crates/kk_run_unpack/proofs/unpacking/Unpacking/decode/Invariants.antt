@@ -1,4 +1,0 @@
-use Rattle.kk_run_unpack.proofs.unpacking.Unpacking.decode.Given as goal
-
-abbrev pub ghosts-answer_each : goal.ghosts-answer_each
-ghosts-answer_each a = record { name = a.blank.name; parts = a.blank.parts }
