@@ -6,6 +6,8 @@ mod code;
 #[cfg(test)]
 mod decode;
 #[cfg(test)]
+mod degrees;
+#[cfg(test)]
 mod field;
 #[cfg(test)]
 mod interp;
