@@ -18,7 +18,7 @@ TOP = os.path.dirname(os.path.dirname(os.path.realpath(__file__)))
 CRATE = os.path.join(TOP, "crates", "kk_yard")
 PROGRAM = os.path.join(CRATE, "out", "kk_yard")
 # the moduli, and the field of the code (31, 24, 16)
-LOWS = {8: "0x1b", 31: "9", 62: "0x20000001"}
+LOWS = {8: "0x1b", 31: "9", 40: "0x39", 62: "0x20000001"}
 OF_CODE = 31
 # the works that are counted in each field, and their rounds
 OF_FIELD = {"product": 10_000, "square": 10_000, "inverse": 200}

@@ -1,5 +1,6 @@
 #!/usr/bin/env python3
-"""Counts the instructions of `kk pack` and `kk unpack` for a byte of the file, at (m, l, k) = (31, 24, 16).
+"""Counts the instructions of `kk pack` and `kk unpack` for a byte of the file, at (m, l, k) = (31, 24, 16), (40, 20, 10) and
+(8, 8, 4).
 
   bench/per_byte.py [GENERATIONS]     500 unless told
 
@@ -19,7 +20,8 @@ from capture import Ticket, capture
 
 TOP = os.path.dirname(os.path.dirname(os.path.realpath(__file__)))
 PROGRAM = os.environ.get("KK") or os.path.join(TOP, "boot", "kk")
-GENERATION_BYTES = 62
+# m, the modulus X^m + low, l and k; the first is tried with loss too
+CODES = [(31, 0x9, 24, 16), (40, 0x39, 20, 10), (8, 0x1B, 8, 4)]
 # what happened to a capture on its way, and how many dimensions of each codeword were erased and injected
 WAYS = [
     ("`unpack`, random combinations", 0, 0),
@@ -44,27 +46,31 @@ def counted(words, source, owed):
     return int(re.search(rb"Collected : (\d+)", done.stderr)[1]), written
 
 
-def counts(generations):
-    """The instructions of each command over a file of so many generations."""
-    file = random.Random(generations).randbytes(GENERATION_BYTES * generations)
-    text = f"kk1:00c0ffee:31:0000000000000009:24:16:{len(file)}"
+def counts(code, generations):
+    """The instructions of each command over a file of so many generations, and how many bytes that has."""
+    m, low, l, k = code
+    file = random.Random(generations).randbytes(k * m // 8 * generations)
+    text = f"kk1:00c0ffee:{m}:{low:016x}:{l}:{k}:{len(file)}"
     found = {}
     found["`pack`"], packed = counted(["pack", text], file, None)
     found["`unpack`, as packed"], _ = counted(["unpack", text], packed, file)
-    for name, erased, injected in WAYS:
+    for name, erased, injected in WAYS if code == CODES[0] else []:
         frames, _ = capture(Ticket(text), file, erased, injected)
         found[name], _ = counted(["unpack", text], frames, file)
-    return found
+    return found, len(file)
 
 
 def main():
     generations = int(sys.argv[1]) if len(sys.argv) > 1 else 500
     if not os.environ.get("KK"):
         subprocess.run([os.path.join(TOP, "boot", "check")], stdout=sys.stderr, check=True)
-    once, twice = counts(generations), counts(2 * generations)
-    print("| command | instructions a byte |\n|---|---|")
-    for name, count in once.items():
-        print(f"| {name} | {(twice[name] - count) / GENERATION_BYTES / generations:.0f} |")
+    print("| m, l, k | command | instructions a byte |\n|---|---|---|")
+    for code in CODES:
+        once, bytes_once = counts(code, generations)
+        twice, bytes_twice = counts(code, 2 * generations)
+        for name, count in once.items():
+            m, _, l, k = code
+            print(f"| {m}, {l}, {k} | {name} | {(twice[name] - count) / (bytes_twice - bytes_once):.0f} |", flush=True)
 
 
 if __name__ == "__main__":

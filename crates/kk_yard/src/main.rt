@@ -30,16 +30,20 @@ fn tables(m: u32, low: u64) -> Option<FieldTables>
 
 /// The work on elements, in each field that is measured.
 fn in_fields<L: Ledger>(work: &[u8], rounds: u64, steps: &mut Steps<L>) -> Option<u64> {
-    let (small, middle, large) = (tables(8, 0x1b)?, tables(31, 9)?, tables(62, (1 << 29) + 1)?);
+    let (small, middle) = (tables(8, 0x1b)?, tables(31, 9)?);
+    let (long, large) = (tables(40, 0x39)?, tables(62, (1 << 29) + 1)?);
     Some(match work {
         b"product8" => elements::products(&small, rounds, steps),
         b"product31" => elements::products(&middle, rounds, steps),
+        b"product40" => elements::products(&long, rounds, steps),
         b"product62" => elements::products(&large, rounds, steps),
         b"square8" => elements::squares(&small, rounds, steps),
         b"square31" => elements::squares(&middle, rounds, steps),
+        b"square40" => elements::squares(&long, rounds, steps),
         b"square62" => elements::squares(&large, rounds, steps),
         b"inverse8" => elements::inverses(&small, rounds, steps),
         b"inverse31" => elements::inverses(&middle, rounds, steps),
+        b"inverse40" => elements::inverses(&long, rounds, steps),
         b"inverse62" => elements::inverses(&large, rounds, steps),
         _ => return None,
     })
