@@ -13,7 +13,7 @@ use Rattle.kk_frame.specs.declared.gate_count.Ended.TheVariants as ended
 use Rattle.kk_frame.specs.declared.gate_count.GateCount.{GateCount}
 use Rattle.kk_frame.specs.Asking.{FaultCause, HasAsked, AsksUpToStop}
 use Rattle.kk_frame.specs.Datagram.{data_frames}
-use Rattle.kk_frame.specs.Events.{all_readings, end_with, counts_over, stop, taken, counts}
+use Rattle.kk_frame.specs.Events.{all_readings, end_with, counts_over, stop}
 use Rattle.kk_frame.specs.Intake.{IntakeState, IsIntake, IsAfter, is_running, calls_left}
 use Rattle.kk_frame.proofs.Asks.{HasAsked-start, told_is, taken_is, counts_is, asks, stops_there}
 use Rattle.kk_machine.specs.declared.call.Entry.{Entry}

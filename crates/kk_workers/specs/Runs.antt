@@ -9,6 +9,7 @@ use Rattle.kk_outside.specs.Gate.{GateTold}
 use Rattle.kk_code.specs.Codeword.{Parameters}
 use Rattle.kk_code.specs.Decoding.{answer}
 use Rattle.kk_code.specs.Ticket.{TicketFields, generations}
+use Rattle.kk_frame.specs.declared.gate_count.GateCount.{GateCount}
 use Rattle.kk_frame.specs.Asking.{FaultCause}
 use Rattle.kk_machine.specs.declared.call.Call.{Call}
 use Rattle.kk_machine.specs.declared.call.Call.TheVariants.{Insert, Freeze, Peek}
@@ -20,7 +21,7 @@ use Rattle.kk_table.specs.Founder.{FounderView}
 use Rattle.kk_table.specs.Pass.{PassView}
 use Rattle.kk_table.specs.Table.{TableView, shape_of}
 use Rattle.kk_workers.specs.declared.plan.Plan.{Plan}
-use Rattle.kk_workers.specs.declared.station.Station.{Station}
+use Rattle.kk_workers.specs.declared.running.TheConstants.{MAX_GATES}
 use Rattle.kk_workers.specs.Totals.{totals_in, no_totals}
 use Rattle.kk_workers.specs.WorkerCalls.{SamePass, AreAnswers, WasWorkedOff}
 use Rattle.kk_workers.specs.WorkerLoop.{AreTotals}
@@ -32,16 +33,22 @@ use Rattle.kk_workers.specs.Worker.{WorkerView, new_worker}
 abbrev pub founder_of : TableView → ℕ → ℕ → List Known → ℕ → FounderView
 founder_of table passes given records spare = record { table = table; passes = passes; given = given; records = records; spare = spare }
 
+-- a receiver that has asked no gate yet: its ticket, and for how many gates it is
+pub record ReceiverView : Type 0 where
+  pub ticket : TicketFields
+  pub gates : ℕ
+
 -- A new table of the ticket for so many gates and a closing pass, with the storage of all passes, and room for all that
 -- becomes known.
-pub record IsStation {G : Type 0} (t : TicketFields) (gates : ℕ) (s : Station G) : Type 0 where
-  pub shape : s.table.shape ≡ shape_of t
-  pub founder : s.founder ≡ founder_of s.table (gates + 1) 0 [] (gates + 1)
-  pub rooms : length s.rooms.items ≡ gates
-  pub empty : All (λ room. room.items ≡ replicate (generations t) None) s.rooms.items
-  pub workers : (s.workers.items ≡ []) × (gates ≤ vec_capacity s.workers)
-  pub counts : (s.counts.items ≡ []) × (gates ≤ vec_capacity s.counts)
-  pub answers : (s.answers.items ≡ []) × (generations t ≤ vec_capacity s.answers)
+pub record HasAllRoom {G : Type 0} (t : TicketFields) (gates : ℕ) (table : TableView) (founder : FounderView) (rooms : List (Vec (Option (Option (List ℕ))) Global))
+    (workers : Vec (WorkerView G) Global) (counts : Vec GateCount Global) (answers : Vec (Option (List ℕ)) Global) : Type 0 where
+  pub few : gates ≤ MAX_GATES
+  pub shape : table.shape ≡ shape_of t
+  pub founder_is : founder ≡ founder_of table (gates + 1) 0 [] (gates + 1)
+  pub empty : All (λ room. room.items ≡ replicate (generations t) None) rooms
+  pub no_workers : (workers.items ≡ []) × (gates ≤ vec_capacity workers)
+  pub no_counts : (counts.items ≡ []) × (gates ≤ vec_capacity counts)
+  pub no_answers : (answers.items ≡ []) × (generations t ≤ vec_capacity answers)
 
 -- the pass that is given after k others, none of which was taken back
 abbrev pub pass_of : TableView → ℕ → PassView

@@ -1,4 +1,4 @@
-use Rattle.std.proofs.Common.{◌≡◌, ◌∙◌, [], true, ap, sym, refl, subst, rules}
+use Rattle.std.proofs.Common.{◌≡◌, ◌∙◌, [], ap, sym, refl, subst, rules}
 use Rattle.kk_outside.specs.Change.{change}
 use Rattle.kk_outside.specs.Gate.{GateTold}
 use Rattle.kk_frame.specs.Asking.{FaultCause, frames_of}

@@ -7,28 +7,29 @@ use Rattle.kk_table.specs.declared.view.Shape.{Shape}
 use Rattle.kk_table.specs.Founder.{FounderView}
 use Rattle.kk_table.specs.Rule.{numbers_of}
 use Rattle.kk_workers.specs.Worker.{WorkerView}
-use Rattle.kk_workers.specs.Runs.{hired, lists_in, closing_answer, Closes}
+use Rattle.kk_workers.specs.Receiving.{IsReceived}
+use Rattle.kk_workers.specs.Runs.{ReceiverView, hired, lists_in, closing_answer, Closes}
 use Rattle.kk_workers.proofs.Stations.{all_hired, ready, done, map_same, rooms_long, ticket_code}
-use Rattle.kk_workers.proofs.receiving.gather.Goals as goal
+use Rattle.kk_workers.proofs.receiver.Receiver.gather.Goals as goal
 
 pub run_all-requires-clause-ready : goal.run_all-requires-clause-ready
 run_all-requires-clause-ready g c κs within =
-    let table = c.in_ok-table.field-0.table in
+    let table = c.self.inside.table in
     let is = c.hire.ensures.workers ∙ ap (λ (n : ℕ). hired table n 0 c.args.gates.now.items) c.generations-generations.ensures.count in
-    ready table c.args.ticket.now c.args.gates.now.items c.hire.new.workers.items is
+    ready table c.self.inside.ticket c.args.gates.now.items c.hire.new.workers.items is
 
 pub dismiss-totals-requires-clause-passes : goal.dismiss-totals-requires-clause-passes
 dismiss-totals-requires-clause-passes g c κs within = λ k d near.
-    let table = c.in_ok-table.field-0.table in
+    let table = c.self.inside.table in
     let is = c.hire.ensures.workers ∙ ap (λ (n : ℕ). hired table n 0 c.args.gates.now.items) c.generations-generations.ensures.count in
     let near' : k < length c.hire.new.workers.items = omega (arith, near, c.run_all.ensures.len) in
-    (c.run_all.ensures.each k d near').same.table ∙ (ready table c.args.ticket.now c.args.gates.now.items c.hire.new.workers.items is k d near').table
+    (c.run_all.ensures.each k d near').same.table ∙ (ready table c.self.inside.ticket c.args.gates.now.items c.hire.new.workers.items is k d near').table
 
 pub dismiss-totals-requires-clause-few : goal.dismiss-totals-requires-clause-few
 dismiss-totals-requires-clause-few g c κs within =
-    let table = c.in_ok-table.field-0.table in
+    let table = c.self.inside.table in
     let is = c.hire.ensures.workers ∙ ap (λ (n : ℕ). hired table n 0 c.args.gates.now.items) c.generations-generations.ensures.count in
-    omega (arith, c.run_all.ensures.len, all_hired table c.args.ticket.now c.args.gates.now.items c.hire.new.workers.items is, c.requires.few)
+    omega (arith, c.run_all.ensures.len, all_hired table c.self.inside.ticket c.args.gates.now.items c.hire.new.workers.items is, c.self.invariant.few, c.requires.gates, ap (λ (v : ReceiverView). v.gates) c.self.view_is)
 
 pub dismiss-totals-requires-clause-few_inserts : goal.dismiss-totals-requires-clause-few_inserts
 dismiss-totals-requires-clause-few_inserts g c κs within = λ k d near.
@@ -38,19 +39,20 @@ dismiss-totals-requires-clause-few_inserts g c κs within = λ k d near.
 
 pub dismiss-totals-requires-clause-room : goal.dismiss-totals-requires-clause-room
 dismiss-totals-requires-clause-room g c κs within =
-    let table = c.in_ok-table.field-0.table in
+    let table = c.self.inside.table in
     let is = c.hire.ensures.workers ∙ ap (λ (n : ℕ). hired table n 0 c.args.gates.now.items) c.generations-generations.ensures.count in
-    let long = all_hired table c.args.ticket.now c.args.gates.now.items c.hire.new.workers.items is in (
+    let count_is : length c.args.gates.now.items ≡ length c.self.inside.rooms.items = c.requires.gates ∙ sym (ap (λ (v : ReceiverView). v.gates) c.self.view_is) in
+    let long = all_hired table c.self.inside.ticket c.args.gates.now.items c.hire.new.workers.items is in (
       omega (arith, c.run_all.ensures.len, long, c.hire.ensures.gates_room, c.args.gates.now.ok.0, c.args.gates.now.ok.1),
-      omega (arith, c.run_all.ensures.len, long, c.in_ok-table.ensures.counts.1, c.len.ensures, c.args.gates.now.ok.0),
-      omega (arith, c.run_all.ensures.len, long, c.hire.ensures.rooms_room, c.in_ok-table.ensures.rooms, c.in_ok-table.field-0.rooms.ok.0, c.in_ok-table.field-0.rooms.ok.1, c.len.ensures, c.args.gates.now.ok.0),
+      omega (arith, c.run_all.ensures.len, long, c.self.invariant.no_counts.1, count_is),
+      omega (arith, c.run_all.ensures.len, long, c.hire.ensures.rooms_room, c.self.inside.rooms.ok.0, c.self.inside.rooms.ok.1, count_is),
     )
 
 pub unreachable-requires-in_default-finish : goal.unreachable-requires-in_default-finish
 unreachable-requires-in_default-finish g c =
-    let table = c.in_ok-table.field-0.table in
+    let table = c.self.inside.table in
     let is = c.hire.ensures.workers ∙ ap (λ (n : ℕ). hired table n 0 c.args.gates.now.items) c.generations-generations.ensures.count in
-    let long = all_hired table c.args.ticket.now c.args.gates.now.items c.hire.new.workers.items is in
+    let long = all_hired table c.self.inside.ticket c.args.gates.now.items c.hire.new.workers.items is in
     let known : WorkerView g.row.G.Denot → Known = λ w. w.pass.known in
     let records : c.take_back.new.self.records ≡ map known c.run_all.new.workers.items ++ c.close_all.new.pass.known ∷ [] =
     ap (λ (f : FounderView). f.records) c.take_back.ensures
@@ -75,12 +77,12 @@ unreachable-requires-in_default-finish g c =
 pub invariant_of-result : goal.invariant_of-result
 invariant_of-result g c =
     ap length c.decode_all.ensures ∙ length-map-range_with_len _ 0 c.generations-generations.result ∙ c.generations-generations.ensures.count
-    ∙ sym (ap (λ (s : Shape). s.generations) (c.in-Ok-finish.ensures.logs.0 ∙ c.in_ok-table.ensures.shape))
+    ∙ sym (ap (λ (s : Shape). s.generations) (c.in-Ok-finish.ensures.logs.0 ∙ c.self.invariant.shape))
 
-pub returns-clause-received : goal.returns-clause-received
-returns-clause-received g c =
-    let t = c.args.ticket.now in
-    let table = c.in_ok-table.field-0.table in
+pub returns : goal.returns
+returns g c =
+    let t = c.self.inside.ticket in
+    let table = c.self.inside.table in
     let gates = c.args.gates.now.items in
     let count = c.generations-generations.ensures.count in
     let is = c.hire.ensures.workers ∙ ap (λ (n : ℕ). hired table n 0 gates) count in
@@ -89,8 +91,10 @@ returns-clause-received g c =
     let closing = c.close_all.new.pass.known in
     let same = c.close_all.ensures.pass in
     let dismissed = ap (λ (f : FounderView). f.records) c.dismiss-totals.ensures.founder in
-    record {
-      shape = c.in-Ok-finish.ensures.logs.0 ∙ c.in_ok-table.ensures.shape;
+    subst (λ (v : ReceiverView). IsReceived g.G.Gate.told v.ticket c.args.plan.now gates c.dismiss-totals.new.gates.items
+    (record { logs = c.in-Ok-finish.logs; answers = c.decode_all.new.answers.items; gates = c.dismiss-totals.new.counts.items; totals = c.dismiss-totals.result })) c.self.view_is
+    (record {
+      shape = c.in-Ok-finish.ensures.logs.0 ∙ c.self.invariant.shape;
       workers = c.run_all.new.workers.items;
       count = c.run_all.ensures.len ∙ long;
       done = done table t gates c.hire.new.workers.items is g.G.Gate.told c.args.plan.now c.run_all.new.workers.items c.run_all.ensures.each;
@@ -107,7 +111,7 @@ returns-clause-received g c =
       answers = c.decode_all.ensures
           ∙ map_same (λ p rooms k. closing_answer p rooms closing k) c.code.ensures.code (ap lists_in c.deref-2.ensures.value ∙ c.dismiss-totals.ensures.kept) (ap (range_with_len 0) count);
       code = ticket_code t c.code.ensures.ticket;
-    }
+    })
 
 pub close_all-requires-clause-kept : goal.close_all-requires-clause-kept
 close_all-requires-clause-kept g c =

@@ -1,6 +1,6 @@
 use Rattle.std.proofs.Common.{◌≡◌, ◌≤◌, All, replicate, None, vec_len, vec_capacity}
 use Rattle.kk_code.specs.Ticket.{generations}
-use Rattle.kk_workers.proofs.station.rooms_of.Given as goal
+use Rattle.kk_workers.proofs.receiver.rooms_of.Given as goal
 
 abbrev pub invariant-loop-i : goal.invariant-loop-i
 invariant-loop-i l = record {
