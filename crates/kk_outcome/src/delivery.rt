@@ -1,5 +1,5 @@
 //! The file, from the answers to its sink.
-ghost use Rattle.std.specs.Prelude.{◌≡◌, [], Some, All, IfOk, IfSome, length, vec_len};
+ghost use Rattle.std.specs.Prelude.{◌≡◌, [], Some, All, IfOk, IfSome, length};
 ghost use Rattle.kk_outside.specs.Change.{change};
 ghost use Rattle.kk_code.specs.Codeword.{IsMessage};
 ghost use Rattle.kk_code.specs.Ticket.{generations};
@@ -11,7 +11,7 @@ ghost use Rattle.kk_report.specs.Status.{code_of};
 
 use kk_assemble::join;
 use kk_code::{Message, Ticket};
-use kk_outside::{Alloc, Sink, write_all, zeroed};
+use kk_outside::{Alloc, Room, Sink, write_all};
 use kk_report::Status;
 use std::alloc::Global;
 
@@ -39,9 +39,9 @@ pub fn deliver<K: Sink>(
 }
 
 /// Room for the bytes of the file.
-pub fn room_of(alloc: Global, ticket: &Ticket) -> Result<Vec<u8>, Alloc>
-    ensures len { IfOk result (λ bytes. vec_len bytes ≡ ticket.now.length) }
+pub fn room_of(alloc: Global, ticket: &Ticket) -> Result<Room, Alloc>
+    ensures len { IfOk result (λ room. length room ≡ ticket.now.length) }
     ensures ticket { IsTicket ticket.now }
 {
-    zeroed(alloc, ticket.length() as usize)
+    Room::new(alloc, ticket.length() as usize)
 }

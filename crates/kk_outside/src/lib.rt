@@ -38,7 +38,7 @@ pub use memory_sink::MemorySink;
 pub use memory_source::MemorySource;
 pub use open_fault::OpenFault;
 pub use outlet::Outlet;
-pub use room::{Room, zeroed};
+pub use room::Room;
 pub use sink::{Sink, write_all};
 pub use source::{Source, fill};
 pub use std_sink::StdSink;

@@ -54,7 +54,7 @@ impl Room {
 }
 
 /// So many bytes that are 0.
-pub fn zeroed(alloc: Global, len: usize) -> Result<Vec<u8>, Alloc>
+fn zeroed(alloc: Global, len: usize) -> Result<Vec<u8>, Alloc>
     ensures bytes { IfOk result (λ bytes. bytes.items ≡ replicate len 0) }
     ensures len { IfOk result (λ bytes. vec_len bytes ≡ len) }
 {

@@ -1,5 +1,5 @@
 -- The row spaces of a receiver, one for each generation.
-use Rattle.std.specs.Prelude.{◌≡◌, ℕ, ◌<◌, List, [], length, IfSome}
+use Rattle.std.specs.Prelude.{◌≡◌, ℕ, ◌<◌, Option, List, [], length, IfSome}
 use Rattle.std.specs.List.{slice_index_or}
 use Rattle.kk_rows.specs.Span.{in_span}
 use Rattle.kk_rows.specs.Space.{Space}
@@ -14,6 +14,11 @@ use Rattle.kk_frame.specs.Events.{taken}
 use Rattle.kk_frame.specs.Intake.{IntakeState, IsAfter}
 use Rattle.kk_frame.specs.Generation.{rows_of}
 use Rattle.kk_run_unpack.specs.Unpack.{vectors_of, counts_of, ReadsUpToStop, LeavesRemainder}
+
+-- what clauses see of the generations of an unpacking: of each its row space, and its answer, once it is decoded
+pub record GenerationsView : Type 0 where
+  pub spaces : List Space
+  pub answers : List (Option (List ℕ))
 
 -- a space of rows of this width, which these rows span
 pub record Spans (w : ℕ) (space : Space) (rows : List ℕ) : Type 0 where

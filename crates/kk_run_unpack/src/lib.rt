@@ -1,6 +1,7 @@
 //! The command `unpack`: a capture of frames comes in, and the file goes out.
 #![tactic(auto)]
 
+mod generations;
 pub mod laws;
 mod receive;
 mod report;
@@ -9,3 +10,4 @@ mod unpack;
 mod unpacking;
 
 pub use unpack::{UNPACK, run_unpack};
+pub use unpacking::Unpacking;

@@ -6,12 +6,10 @@ ghost use Rattle.kk_report.specs.Command.{texts, IsRefusalOfWords, RanThrough};
 ghost use Rattle.kk_order.specs.Order.{Order};
 ghost use Rattle.kk_run_unpack.specs.Unpack.{UnpacksBy, Unpacks, max_pieces, unpacked};
 
-use crate::report::report_capture;
 use crate::unpacking::Unpacking;
 use kk_forms::{Argument, Form};
-use kk_order::{Bound, DATAGRAMS_LIMIT, Limit, OrderFault, OrderForm, TicketPlace, refuse_words};
+use kk_order::{Bound, DATAGRAMS_LIMIT, Limit, OrderForm, TicketPlace, refuse_words};
 use kk_outside::{Sink, Source};
-use kk_report::{Refusal, refuse};
 use std::alloc::Global;
 
 /// The words of `unpack`: the ticket, and how many pieces are taken at most.
@@ -56,25 +54,8 @@ pub fn run_unpack<S: Source, K: Sink, P: Sink>(
     ensures no_bytes { (order : Order) → UnpacksBy order (texts words.now) result
         → unpacked order.ticket (max_pieces order) (bytes_read (change (S.told source.old) (S.told source.new))) ≡ Some [] → file.new ≡ file.old }
 {
-    let order = match UNPACK.read(alloc, words) {
-        Ok(order) => order,
-        Err(fault) => return refuse_words(fault, report),
-    };
-    let ticket = order.ticket();
-    let most = order.number("most").unwrap() as u32;
-    let Ok(mut unpacking) = Unpacking::new(alloc, ticket) else {
-        return refuse_words(OrderFault::Memory, report);
-    };
-    let Ok(counts) = unpacking.receive(ticket, most, source) else {
-        return refuse(Refusal::Input, report);
-    };
-    unpacking.decode(ticket);
-    let status = unpacking.deliver(ticket, file);
-    report_capture(
-        status,
-        &counts,
-        &unpacking.spaces,
-        &unpacking.answers,
-        report,
-    )
+    match Unpacking::open(alloc, words) {
+        Ok(unpacking) => unpacking.run(source, file, report),
+        Err(fault) => refuse_words(fault, report),
+    }
 }

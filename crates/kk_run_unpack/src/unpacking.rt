@@ -1,117 +1,113 @@
-//! An unpacking: all its memory, and its steps.
-ghost use Rattle.std.specs.Prelude.{◌≡◌, ◌<◌, ◌≤◌, ℕ, List, [], length, map, vec_len, vec_capacity, IfOk, IfSome, Some, OnErr, All};
-ghost use Rattle.kk_outside.specs.Causes.{HasCause};
+//! An unpacking: opened by its words, with all its memory, and then run.
+ghost use Rattle.std.specs.Prelude.{◌≡◌, ℕ, List, [], Ok, Some, IfOk, IfErr};
 ghost use Rattle.kk_outside.specs.Change.{change};
-ghost use Rattle.kk_code.specs.Codeword.{IsMessage, width};
-ghost use Rattle.kk_code.specs.Decoding.{answer};
-ghost use Rattle.kk_code.specs.Ticket.{generations};
-ghost use Rattle.kk_outcome.specs.Answers.{answers, file_of};
-ghost use Rattle.kk_report.specs.Command.{RanThrough};
-ghost use Rattle.kk_outcome.specs.Delivery.{IsDelivered};
-ghost use Rattle.kk_report.specs.Status.{code_of};
-ghost use Rattle.kk_run_unpack.specs.Unpack.{FailsBeforeStop};
-ghost use Rattle.kk_run_unpack.specs.Spaces.{AreReceived, AreSpanned};
+ghost use Rattle.kk_outside.specs.Source.{bytes_read};
+ghost use Rattle.kk_report.specs.Command.{texts, IsRefusalOfWords, RanThrough};
+ghost use Rattle.kk_order.specs.Order.{FitsLine, IsRefusedFor, cause_of, order_of};
+ghost use Rattle.kk_run_unpack.specs.Unpack.{Unpacks, max_pieces, unpack_form, unpacked};
 
-use crate::receive::take_frames;
-use kk_code::{Code, Message, Ticket};
-use kk_decode::Scratch;
-use kk_frame::GateCount;
-use kk_outcome::deliver;
-use kk_outside::{Alloc, Failed, Sink, Source};
-use kk_report::Status;
-use kk_rows::RowSpace;
-use kk_workers::decode_uncounted;
+use crate::generations::Generations;
+use crate::report::report_capture;
+use crate::unpack::UNPACK;
+use kk_order::{Order, OrderFault};
+use kk_outcome::{deliver, room_of};
+use kk_outside::{Room, Sink, Source};
+use kk_report::{Refusal, refuse};
 use std::alloc::Global;
+use std::marker::Model;
 
-/// An unpacking under a ticket: a row space for each generation, room for an answer each, and the bytes of the file.
+/// An unpacking that is to be run: its order, and all its memory. Nothing of it can grow, and it lends no allocator, so a run
+/// takes no memory.
 #[derive(Drop)]
-pub(crate) struct Unpacking {
-    pub(crate) spaces: Vec<RowSpace>,
-    pub(crate) answers: Vec<Option<Message>>,
-    file: Vec<u8>,
+pub struct Unpacking {
+    order: Order,
+    /// How many pieces are taken at most.
+    most: u32,
+    generations: Generations,
+    /// Room for the file.
+    bytes: Room,
+}
+
+// Clauses see its order.
+impl Model for Unpacking {
+    ghost use Rattle.std.specs.Prelude.{◌≡◌, ◌≤◌, [], length};
+    ghost use Rattle.kk_order.specs.Order.{Order as Ordered};
+    ghost use Rattle.kk_run_unpack.specs.Spaces.{AreSpanned};
+    ghost use Rattle.kk_run_unpack.specs.Unpack.{max_pieces};
+
+    ghost Value = { Ordered };
+
+    ghost view = { λ u. u.order };
+
+    ghost invariant = { λ u. (u.most ≡ max_pieces u.order) × (1 ≤ u.most) × AreSpanned u.order.ticket u.generations.spaces [] × (length u.bytes ≡ u.order.ticket.length) };
 }
 
 impl Unpacking {
-    /// Takes all the memory that it needs.
-    pub(crate) fn new(alloc: Global, ticket: &Ticket) -> Result<Unpacking, Alloc>
-        ensures spaces { IfOk result (λ unpacking. AreSpanned ticket.now unpacking.spaces.items []) }
-        ensures answers { IfOk result (λ unpacking. unpacking.answers.items ≡ []) }
-        ensures room { IfOk result (λ unpacking. generations ticket.now ≤ vec_capacity unpacking.answers) }
-        ensures file { IfOk result (λ unpacking. vec_len unpacking.file ≡ ticket.now.length) }
+    /// An unpacking by these words: `unpack`, the ticket, and `--most N` where the number of pieces is given. It takes all the memory
+    /// that a run needs, and calls nothing outside.
+    ///
+    /// # Errors
+    ///
+    /// Why the words are refused, or `Memory`.
+    pub fn open(alloc: Global, words: &[String]) -> Result<Unpacking, OrderFault>
+        ensures ordered { IfOk result (λ order. order_of unpack_form (texts words.now) ≡ Ok order) }
+        ensures refused { IfErr result (λ fault. IsRefusedFor (order_of unpack_form (texts words.now)) (cause_of fault)) }
+        ensures line { IfErr result (λ fault. FitsLine (cause_of fault)) }
     {
-        let generations = ticket.generations() as usize;
-        let width = ticket.code().width();
-        let mut spaces = Vec::with_capacity(alloc, generations)?;
-        for _ in 0..generations {
-            spaces.push_reserved(RowSpace::new(width));
-        }
-        let answers = Vec::with_capacity(alloc, generations)?;
-        let mut file = Vec::new(alloc);
-        file.resize(ticket.length() as usize, 0)?;
+        let order = match UNPACK.read(alloc, words) {
+            Ok(order) => order,
+            Err(fault) => return Err(fault),
+        };
+        let most = order.number("most").unwrap() as u32;
+        let Ok(generations) = Generations::new(alloc, order.ticket()) else {
+            return Err(OrderFault::Memory);
+        };
+        let Ok(bytes) = room_of(alloc, order.ticket()) else {
+            return Err(OrderFault::Memory);
+        };
         Ok(Unpacking {
-            spaces,
-            answers,
-            file,
+            order,
+            most,
+            generations,
+            bytes,
         })
     }
 
-    /// Takes the frames of a source up to END, to piece number `most` or to its end, and answers what it counted.
-    pub(crate) fn receive<S: Source>(
-        &mut self,
-        ticket: &Ticket,
-        most: u32,
+    /// Reads the frames of the source up to END, decodes each generation, writes the file, and reports what became of each
+    /// generation. The answer is the status, which is that of no refusal.
+    pub fn run<S: Source, K: Sink, P: Sink>(
+        self,
         source: &mut S,
-    ) -> Result<GateCount, Failed>
-        requires most { 1 ≤ most }
-        requires spaces { AreSpanned ticket.now self.old.spaces.items [] }
-        ensures received { IfOk result (λ counted. AreReceived ticket.now most (change (S.told source.old) (S.told source.new)) counted self.new.spaces.items) }
-        ensures failed { OnErr result (FailsBeforeStop ticket.now most (change (S.told source.old) (S.told source.new))) }
-        ensures cause { HasCause (S.told source.old).faults (S.told source.new).faults result }
-        ensures answers { self.new.answers ≡ self.old.answers }
-        ensures file { self.new.file ≡ self.old.file }
-    {
-        take_frames(source, ticket, most, &mut self.spaces)
-    }
+        file: &mut K,
+        report: &mut P,
+    ) -> u8
+        ensures unpacks { (words : List (List ℕ)) → order_of unpack_form words ≡ Ok self → Unpacks words (change (S.told source.old) (S.told source.new))
+            (change (K.told file.old) (K.told file.new)) (change (P.told report.old) (P.told report.new)) result }
+        ensures not_refused { IsRefusalOfWords result → ⊥ }
 
-    /// Decodes each generation.
-    pub(crate) fn decode(&mut self, ticket: &Ticket)
-        requires spaces { (vectors : List (ℕ × ℕ)) × AreSpanned ticket.now self.old.spaces.items vectors }
-        requires answers { self.old.answers.items ≡ [] }
-        requires room { generations ticket.now ≤ vec_capacity self.old.answers }
-        ensures answers { (vectors : List (ℕ × ℕ)) → AreSpanned ticket.now self.old.spaces.items vectors
-            → self.new.answers.items ≡ answers ticket.now vectors }
-        ensures messages { All (λ a. IfSome a (IsMessage ticket.now.code)) self.new.answers.items }
-        ensures spaces { self.new.spaces ≡ self.old.spaces }
-        ensures file { self.new.file ≡ self.old.file }
+        // Only a file that has bytes makes a call on its sink.
+        ensures unwritten { (RanThrough result → ⊥) → file.new ≡ file.old }
+        ensures no_bytes { unpacked self.ticket (max_pieces self) (bytes_read (change (S.told source.old) (S.told source.new))) ≡ Some []
+            → file.new ≡ file.old }
     {
-        answer_each(&ticket.code(), &self.spaces, &mut self.answers);
-    }
-
-    /// Writes the file, where each generation has an answer.
-    pub(crate) fn deliver<K: Sink>(&mut self, ticket: &Ticket, file: &mut K) -> Status
-        requires one_each { length self.old.answers.items ≡ generations ticket.now }
-        requires messages { All (λ a. IfSome a (IsMessage ticket.now.code)) self.old.answers.items }
-        requires room { vec_len self.old.file ≡ ticket.now.length }
-        ensures delivered { IsDelivered (file_of ticket.now self.old.answers.items) (code_of result) (change (K.told file.old) (K.told file.new)) }
-        ensures unwritten { (RanThrough (code_of result) → ⊥) → file.new ≡ file.old }
-        ensures no_bytes { file_of ticket.now self.old.answers.items ≡ Some [] → file.new ≡ file.old }
-        ensures spaces { self.new.spaces ≡ self.old.spaces }
-        ensures answers { self.new.answers ≡ self.old.answers }
-    {
-        deliver(&self.answers, ticket, &mut self.file, file)
-    }
-}
-
-/// The answer of each space, with one storage for all.
-fn answer_each(code: &Code, spaces: &[RowSpace], answers: &mut Vec<Option<Message>>)
-    requires wide { All (λ space. space.width ≡ width code.now) spaces.now }
-    requires empty { answers.old.items ≡ [] }
-    requires room { length spaces.now ≤ vec_capacity answers.old }
-    ensures answers { answers.new.items ≡ map (λ space. answer code.now space.rows) spaces.now }
-    ensures messages { All (λ a. IfSome a (IsMessage code.now)) answers.new.items }
-{
-    let mut scratch = Scratch::new();
-    for space in spaces {
-        answers.push_reserved(decode_uncounted(code, space, &mut scratch));
+        let Unpacking {
+            order,
+            most,
+            mut generations,
+            mut bytes,
+        } = self;
+        let ticket = order.ticket();
+        let Ok(counts) = generations.receive(ticket, most, source) else {
+            return refuse(Refusal::Input, report);
+        };
+        generations.decode(ticket);
+        let status = deliver(generations.answers(), ticket, bytes.as_mut_slice(), file);
+        report_capture(
+            status,
+            &counts,
+            generations.spaces(),
+            generations.answers(),
+            report,
+        )
     }
 }
