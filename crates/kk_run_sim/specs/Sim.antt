@@ -1,9 +1,14 @@
 -- `sim`: a file from a seed goes through an operator channel to a receiver, and a summary comes out.
-use Rattle.std.specs.Prelude.{◌≡◌, ◌⊎◌, ℕ, List, [], ◌∷◌, None, Ok, codes}
+use Rattle.std.specs.Prelude.{◌≡◌, ◌⊎◌, ℕ, ◌≤◌, List, [], ◌∷◌, length, None, Ok, codes, vec_capacity}
+use Rattle.std.specs.declared.alloc.Global.{Global}
+use Rattle.std.specs.declared.vec.Vec.{Vec}
 use Rattle.kk_outside.specs.Change.{Change}
+use Rattle.kk_outside.specs.GateState.{GateState}
 use Rattle.kk_outside.specs.Sink.{SinkTold}
 use Rattle.kk_table.specs.Logs.{LogsView}
 use Rattle.kk_trial.specs.declared.operator_channel.OperatorChannel.{OperatorChannel}
+use Rattle.kk_trial.specs.Trial.{made_file, trial_gates}
+use Rattle.kk_workers.specs.Runs.{ReceiverView}
 use Rattle.kk_workers.specs.declared.running.TheConstants.{MAX_GATES}
 use Rattle.kk_report.specs.Command.{IsRefusalOfWords, RanThrough}
 use Rattle.kk_forms.specs.Form.{NumberWord, TextOption, Word}
@@ -38,6 +43,21 @@ loss_of order = record { erase = number_of order (codes "erase"); inject = numbe
 -- how many gates the frames are dealt over
 abbrev pub gates_of : Order → ℕ
 gates_of order = number_of order (codes "gates")
+
+-- ---- the opening
+
+-- A trial by this order, with a file and gates of its own, a receiver for these gates, room for the file that is put together, and
+-- for the logs.
+pub record IsSetUp (order : Order) (file : List ℕ) (gates : List GateState) (receiver : ReceiverView) (bytes : List ℕ) (left : Vec LogsView Global) : Type 0 where
+  pub erase : (loss_of order).erase ≤ order.ticket.code.l
+  pub inject : (loss_of order).inject ≤ order.ticket.code.field.degree
+  pub some : 1 ≤ gates_of order
+  pub file_is : file ≡ made_file order.ticket.length (words_of order.seed)
+  pub gates_are : gates ≡ trial_gates order.ticket (loss_of order) (gates_of order) (words_of order.seed)
+  pub ticket : receiver.ticket ≡ order.ticket
+  pub one_each : receiver.gates ≡ gates_of order
+  pub room : length bytes ≡ order.ticket.length
+  pub no_logs : (left.items ≡ []) × (1 ≤ vec_capacity left)
 
 -- ---- the promise
 

@@ -2,6 +2,8 @@
 #![tactic(auto)]
 
 mod sim;
+mod simulating;
 mod simulation;
 
 pub use sim::{SIM, run_sim};
+pub use simulating::Simulating;

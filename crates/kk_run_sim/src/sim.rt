@@ -4,15 +4,12 @@ ghost use Rattle.kk_outside.specs.Change.{change};
 ghost use Rattle.kk_report.specs.Command.{texts, IsRefusalOfWords};
 ghost use Rattle.kk_run_sim.specs.Sim.{Simulates};
 
-use crate::simulation::simulate;
+use crate::Simulating;
 use kk_forms::{Argument, Form};
-use kk_order::{Bound, Limit, OrderFault, OrderForm, TicketPlace, refuse_words};
+use kk_order::{Bound, Limit, OrderForm, TicketPlace, refuse_words};
 use kk_outside::Sink;
 use kk_table::Logs;
-use kk_trial::OperatorChannel;
 use kk_workers::MAX_GATES;
-use rand_chacha::ChaCha20Rng;
-use rand_core::SeedableRng;
 use std::alloc::Global;
 use std::thread::Threads;
 
@@ -66,28 +63,8 @@ pub fn run_sim<R: Threads + Sync, P: Sink>(
     ensures simulates { Simulates (texts words.now) (change (P.told report.old) (P.told report.new)) logs.new.items result }
     ensures none_left { IsRefusalOfWords result → logs.new.items ≡ [] }
 {
-    let order = match SIM.read(alloc, words) {
-        Ok(order) => order,
-        Err(fault) => return refuse_words(fault, report),
-    };
-    let loss = OperatorChannel {
-        erase: order.number("erase").unwrap() as u32,
-        inject: order.number("inject").unwrap() as u32,
-    };
-    let gates = order.number("gates").unwrap() as u32;
-    let mut rng = ChaCha20Rng::from_seed(order.seed().unwrap());
-    let simulated = simulate(
-        rt,
-        alloc,
-        order.ticket(),
-        loss,
-        gates,
-        &mut rng,
-        report,
-        logs,
-    );
-    match simulated {
-        Ok(status) => status,
-        Err(_) => refuse_words(OrderFault::Memory, report),
+    match Simulating::open(alloc, words) {
+        Ok(simulating) => simulating.run(rt, report, logs),
+        Err(fault) => refuse_words(fault, report),
     }
 }

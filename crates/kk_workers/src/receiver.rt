@@ -109,7 +109,14 @@ impl<G: Gate + Send> Receiver<G> {
             mut answers,
         } = self;
         let generations = ticket.generations();
-        hire(&mut founder, &table, gates, &mut rooms, &mut workers, generations);
+        hire(
+            &mut founder,
+            &table,
+            gates,
+            &mut rooms,
+            &mut workers,
+            generations,
+        );
         run_all(rt, &mut workers, &table, &ticket, plan);
         let totals = dismiss(
             &mut founder,

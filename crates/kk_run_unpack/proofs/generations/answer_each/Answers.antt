@@ -24,12 +24,12 @@ answered_more : (p : Parameters) (spaces : List Space) (found : List (Option (Li
     → (j : ℕ) → j < i + 1 → IsAnswered p spaces (set found i a) j
 answered_more p spaces found i a near is message before j below = λ space. elim (cases_eq j i) [
   | inl same ↦
-  let there : get_or (set found i a) j None ≡ a = ap (λ (k : ℕ). get_or (set found i a) k None) same ∙ get_or-set_same found i a None near in
-  (there ∙ is space ∙ ap (λ (k : ℕ). answer p (get_or spaces k space).rows) (sym same), subst (λ (o : Option (List ℕ)). IfSome o (IsMessage p)) (sym there) message)
+      let there : get_or (set found i a) j None ≡ a = ap (λ (k : ℕ). get_or (set found i a) k None) same ∙ get_or-set_same found i a None near in
+      (there ∙ is space ∙ ap (λ (k : ℕ). answer p (get_or spaces k space).rows) (sym same), subst (λ (o : Option (List ℕ)). IfSome o (IsMessage p)) (sym there) message)
   | inr other ↦
-  let there : get_or (set found i a) j None ≡ get_or found j None = get_or-set_other found i j a None other in
-  let one = before j (omega (arith, below, other)) space in
-  (there ∙ one.0, subst (λ (o : Option (List ℕ)). IfSome o (IsMessage p)) (sym there) one.1)
+      let there : get_or (set found i a) j None ≡ get_or found j None = get_or-set_other found i j a None other in
+      let one = before j (omega (arith, below, other)) space in
+      (there ∙ one.0, subst (λ (o : Option (List ℕ)). IfSome o (IsMessage p)) (sym there) one.1)
 ]
 
 -- a place of a list, whatever stands after its end
