@@ -1,5 +1,5 @@
 -- What `recv` promises at each of its ends.
-use Rattle.std.proofs.Common.{◌≡◌, ◌∙◌, ◌⊎◌, inl, inr, ℕ, List, Option, Ok, ap, arith, codes, subst}
+use Rattle.std.proofs.Common.{◌≡◌, ◌∙◌, ◌⊎◌, inl, inr, ℕ, Bool, List, Option, Ok, ap, arith, codes, subst}
 use Rattle.kk_outside.specs.Change.{Change}
 use Rattle.kk_outside.specs.Gate.{GateTold}
 use Rattle.kk_outside.specs.Sink.{SinkTold, WasGiven}
@@ -11,7 +11,7 @@ use Rattle.kk_forms.specs.Request.{under}
 use Rattle.kk_order.specs.Order.{Cause, IsRefusedFor, Order, order_of}
 use Rattle.kk_order.specs.Refuses.{refused_text, status_of}
 use Rattle.kk_order.proofs.Refusals.{refusal_status, same_order, words_accepted, words_refused}
-use Rattle.kk_run_recv.specs.Receiver.{IsReceiver}
+use Rattle.kk_run_recv.specs.Receiver.{IsReceiver, after_gates}
 use Rattle.kk_run_recv.specs.Recv.{Receives, goal_of, limits_of, plan_of, recv_form}
 
 -- the words are refused, or there is no memory
@@ -26,8 +26,15 @@ recv_refused words cause gates file report logs status why is given =
       received = λ order ordered accepted. absurd (accepted refused);
     }
 
-ran_on : (status : ℕ) → (status ≡ 3) ⊎ ((status ≡ 6) ⊎ RanThrough status) → IsRefusalOfWords status → ⊥
+-- the status of a run is that of no refusal
+pub ran_on : (status : ℕ) → (status ≡ 3) ⊎ ((status ≡ 6) ⊎ RanThrough status) → IsRefusalOfWords status → ⊥
 ran_on status is at_once = grind arith
+
+-- A run that delivered its file to the end ran through: neither gates nor report change that.
+pub ran_after : (delivered told code : ℕ) (fault : Bool) → told ≡ after_gates delivered fault → (code ≡ told) ⊎ ((told ≡ 0) × (code ≡ 5)) → RanThrough delivered → RanThrough code
+ran_after delivered told code fault is (inr five) ran = inr five.1
+ran_after delivered told code fault is (inl same) (inl done) = inl (same ∙ is ∙ ap (λ n. after_gates n fault) done)
+ran_after delivered told code fault is (inl same) (inr failed) = inr (same ∙ is ∙ ap (λ n. after_gates n fault) failed)
 
 -- the plan of the order, from what its numbers are
 pub by_order : (order : Order) (t : TicketFields) (idle most : ℕ) (tolerated goal : Option ℕ) → t ≡ order.ticket → idle ≡ (limits_of order).idle

@@ -1,13 +1,17 @@
 -- `recv`: all gates are received from at once, and the file goes out.
-use Rattle.std.specs.Prelude.{◌≡◌, ◌⊎◌, ℕ, ◌+◌, ◌*◌, List, [], ◌∷◌, Option, Some, None, Ok, codes, option_map}
+use Rattle.std.specs.Prelude.{◌≡◌, ◌⊎◌, ℕ, ◌+◌, ◌*◌, ◌≤◌, List, [], ◌∷◌, length, Option, Some, None, Ok, codes, option_map, vec_capacity}
+use Rattle.std.specs.declared.alloc.Global.{Global}
+use Rattle.std.specs.declared.vec.Vec.{Vec}
 use Rattle.kk_outside.specs.Change.{Change}
 use Rattle.kk_outside.specs.Gate.{GateTold}
 use Rattle.kk_outside.specs.Sink.{SinkTold}
 use Rattle.kk_code.specs.Ticket.{TicketFields}
+use Rattle.kk_code.specs.TicketText.{IsTicket}
 use Rattle.kk_frame.specs.declared.limits.Limits.{Limits}
 use Rattle.kk_table.specs.Logs.{LogsView}
 use Rattle.kk_workers.specs.declared.running.TheConstants.{MAX_GATES}
 use Rattle.kk_workers.specs.declared.plan.Plan.{Plan}
+use Rattle.kk_workers.specs.Runs.{ReceiverView}
 use Rattle.kk_report.specs.Command.{IsRefusalOfWords, RanThrough}
 use Rattle.kk_forms.specs.Form.{NumberOption, Word, Words}
 use Rattle.kk_forms.specs.Request.{under}
@@ -47,6 +51,22 @@ goal_of t tolerated = option_map (λ n. t.code.k + 2 * n) tolerated
 -- what a receiver is to do by an order
 abbrev pub plan_of : Order → Plan
 plan_of order = record { limits = limits_of order; goal = goal_of order.ticket (under order.numbers (codes "tolerate")) }
+
+-- ---- the opening
+
+-- what clauses see of a receiving: its order, and for how many gates it is
+pub record ReceivingView : Type 0 where
+  pub order : Order
+  pub gates : ℕ
+
+-- A receiver by this order, with what it is to do, room for the file, and for the logs.
+pub record IsSetUp (order : Order) (plan : Plan) (receiver : ReceiverView) (bytes : List ℕ) (left : Vec LogsView Global) : Type 0 where
+  pub is_ticket : IsTicket order.ticket
+  pub ticket : receiver.ticket ≡ order.ticket
+  pub plan_is : plan ≡ plan_of order
+  pub some : (1 ≤ plan.limits.idle) × (1 ≤ plan.limits.most)
+  pub room : length bytes ≡ order.ticket.length
+  pub no_logs : (left.items ≡ []) × (1 ≤ vec_capacity left)
 
 -- ---- the promise
 

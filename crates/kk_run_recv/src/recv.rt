@@ -1,24 +1,19 @@
 //! `recv`: all gates are received from at once, and the file goes out.
-ghost use Rattle.std.specs.Prelude.{◌≡◌, ◌≤◌, [], Ok, Some, IfSome, length};
+ghost use Rattle.std.specs.Prelude.{◌≡◌, ◌≤◌, [], Ok, Some, length};
 ghost use Rattle.kk_outside.specs.Change.{change};
 ghost use Rattle.kk_workers.specs.Received.{changes};
 ghost use Rattle.kk_report.specs.Command.{texts, IsRefusalOfWords, RanThrough};
 ghost use Rattle.kk_run_recv.specs.Receiver.{received};
-ghost use Rattle.kk_order.specs.declared.bound.Limit.TheVariants.{Tolerated};
-ghost use Rattle.kk_order.specs.Order.{Order, limit_of, order_of};
-ghost use Rattle.kk_run_recv.specs.Recv.{Receives, goal_of, limits_of, recv_form};
+ghost use Rattle.kk_order.specs.Order.{Order, order_of};
+ghost use Rattle.kk_run_recv.specs.Recv.{Receives, limits_of, recv_form};
 ghost use Rattle.kk_workers.specs.declared.running.TheConstants.{MAX_GATES};
 
-use crate::receiver::receive_under;
-use kk_code::Ticket;
+use crate::Receiving;
 use kk_forms::{Argument, Form};
-use kk_frame::Limits;
-use kk_order::{
-    Bound, DATAGRAMS_LIMIT, Limit, OrderFault, OrderForm, QUIETS_LIMIT, TicketPlace, refuse_words,
-};
+use kk_order::{Bound, DATAGRAMS_LIMIT, Limit, OrderForm, QUIETS_LIMIT, TicketPlace, refuse_words};
 use kk_outside::{Gate, Sink};
 use kk_table::Logs;
-use kk_workers::{MAX_GATES, Plan};
+use kk_workers::MAX_GATES;
 use std::alloc::Global;
 use std::thread::Threads;
 
@@ -93,29 +88,8 @@ pub fn run_recv<R: Threads + Sync, K: Sink, P: Sink, G: Gate + Send>(
     ensures no_bytes { (order : Order) → order_of recv_form (texts words.now) ≡ Ok order → (IsRefusalOfWords result → ⊥)
         → received order.ticket (limits_of order) (changes G.told gates.old.items gates.new.items) ≡ Some [] → file.new ≡ file.old }
 {
-    let order = match RECV.read(alloc, words) {
-        Ok(order) => order,
-        Err(fault) => return refuse_words(fault, report),
-    };
-    let ticket = order.ticket();
-    let limits = Limits {
-        idle: order.number("idle").unwrap() as u32,
-        most: order.number("most").unwrap() as u32,
-    };
-    let goal = goal_of(ticket, order.number("tolerate"));
-    let plan = Plan { limits, goal };
-    match receive_under(rt, alloc, ticket, &plan, file, report, gates, logs) {
-        Ok(status) => status,
-        Err(_) => refuse_words(OrderFault::Memory, report),
+    match Receiving::open(alloc, words, gates.len()) {
+        Ok(receiving) => receiving.run(rt, file, report, gates, logs),
+        Err(fault) => refuse_words(fault, report),
     }
-}
-
-/// The rank at which a generation is closed, where so many injected dimensions are tolerated. It is at most l.
-fn goal_of(ticket: &Ticket, tolerated: Option<u64>) -> Option<u32>
-    requires within { IfSome tolerated (λ number. number ≤ limit_of ticket.now Tolerated) }
-    ensures { result ≡ goal_of ticket.now tolerated }
-{
-    let number = tolerated?;
-    let code = ticket.code();
-    Some(code.k() + 2 * number as u32)
 }

@@ -103,7 +103,7 @@ impl Simulating {
     pub fn run<R: Threads + Sync, P: Sink>(self, rt: &R, report: &mut P, logs: &mut Vec<Logs>) -> u8
         ensures simulation { IsSimulation self.ticket (loss_of self) (gates_of self) (words_of self.seed)
             (change (P.told report.old) (P.told report.new)) logs.new.items result }
-        ensures not_refused { IsRefusalOfWords result → ⊥ }
+        ensures accepted { IsRefusalOfWords result → ⊥ }
     {
         let Simulating {
             order,

@@ -83,7 +83,7 @@ impl Unpacking {
     ) -> u8
         ensures unpacks { (words : List (List ℕ)) → order_of unpack_form words ≡ Ok self → Unpacks words (change (S.told source.old) (S.told source.new))
             (change (K.told file.old) (K.told file.new)) (change (P.told report.old) (P.told report.new)) result }
-        ensures not_refused { IsRefusalOfWords result → ⊥ }
+        ensures accepted { IsRefusalOfWords result → ⊥ }
 
         // Only a file that has bytes makes a call on its sink.
         ensures unwritten { (RanThrough result → ⊥) → file.new ≡ file.old }

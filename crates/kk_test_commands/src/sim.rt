@@ -1,6 +1,6 @@
 //! `sim` at its worked numbers, with losses beyond the radius, and with words that are refused.
 use kk_outside::{Alloc, MemorySink};
-use kk_run_sim::run_sim;
+use kk_run_sim::{Simulating, run_sim};
 use kk_table::Logs;
 use kk_worked::{ONE_BYTE, ZEROS, texts};
 use std::alloc::Global;
@@ -187,5 +187,21 @@ fn a_report_that_fails_turns_0_into_5(rt: HostRuntime) -> Result<(), Fail> {
     assert_eq!(rt; outcome.status, 5);
     let outcome = simulated(&rt, rt.alloc(), FAR, &[0])?;
     assert_eq!(rt; outcome.status, 3);
+    Ok(())
+}
+
+#[test]
+fn a_simulation_is_opened_before_its_report_is_there(rt: HostRuntime) -> Result<(), Fail> {
+    let alloc = rt.alloc();
+    let words = texts(alloc, &["sim", LARGE, "4", "4", "1", "--seed", ZEROS])?;
+    let opened = Simulating::open(alloc, &words);
+    assert!(rt; opened.is_ok());
+    let mut report = MemorySink::new(alloc, 1000, 4096, Vec::new(alloc))?;
+    let mut logs = Vec::new(alloc);
+    if let Ok(simulating) = opened {
+        assert_eq!(rt; simulating.run(&rt, &mut report, &mut logs), 0);
+    }
+    assert_eq!(rt; report.bytes(), EQUAL.as_bytes());
+    assert_eq!(rt; logs.len(), 1);
     Ok(())
 }

@@ -13,7 +13,7 @@ use kk_outside::{Bytes, Event, Failed, GATE_BYTES, Gate, Got, MemoryGate};
 use kk_rows::Alloc;
 use kk_table::GenTable;
 use kk_worked::{ONE_BYTE, frame};
-use kk_workers::{MAX_GATES, Plan, Received, Totals, Worker, receive, work};
+use kk_workers::{MAX_GATES, Plan, Received, Receiver, Totals, Worker, receive, work};
 use std::alloc::Global;
 use std::process::Abort;
 use std::sync::Arc;
@@ -500,4 +500,18 @@ fn expect_worker(rt: &impl Abort, alloc: Global, goal: Option<u32>) -> Result<()
 fn worker_by_itself(rt: HostRuntime) -> Result<(), Fail> {
     expect_worker(&rt, rt.alloc(), None)?;
     expect_worker(&rt, rt.alloc(), Some(3))
+}
+
+/// The largest ticket: 16,384 generations.
+const LARGEST: &str = "kk1:00000001:2:0000000000000003:1:1:4096";
+
+/// There is memory for a receiver of sixteen gates at the largest ticket.
+#[test]
+fn sixteen_gates_at_the_largest_ticket(rt: HostRuntime) -> Result<(), Fail> {
+    let alloc = rt.alloc();
+    let ticket = Ticket::read(LARGEST)?;
+    assert_eq!(rt; ticket.generations(), 16_384);
+    let opened = Receiver::<MemoryGate>::new(alloc, &ticket, MAX_GATES);
+    assert!(rt; opened.is_ok());
+    Ok(())
 }

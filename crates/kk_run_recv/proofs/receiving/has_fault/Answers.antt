@@ -3,7 +3,7 @@ use Rattle.std.proofs.lemmas.Option.{get_or_from_slice_get}
 use Rattle.std.proofs.lemmas.List.{take_all}
 use Rattle.kk_run_recv.specs.Receiver.{some_fault}
 use Rattle.kk_run_recv.proofs.Receivers.{some_fault-at, some_fault-more}
-use Rattle.kk_run_recv.proofs.receiver.has_fault.Goals as goal
+use Rattle.kk_run_recv.proofs.receiving.has_fault.Goals as goal
 
 pub returns-then-is_fault : goal.returns-then-is_fault
 returns-then-is_fault c =
